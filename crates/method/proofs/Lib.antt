@@ -1,0 +1,3 @@
+pub mod Method
+pub mod Samples
+pub mod Unique

@@ -1,0 +1,4 @@
+pub mod Octets
+pub mod Write
+pub mod Settles
+pub mod Unique
