@@ -1,0 +1,70 @@
+// The DHKey check (Part H 2.3.5.6.5): the step of WaitingDHKeyEa, and of a check that came early.
+use machine::Action;
+use machine::ActionKind;
+use machine::Answer;
+use machine::Bond;
+use machine::ConnectionEvent;
+use machine::Failure;
+use machine::MaybeBond;
+use machine::Phase;
+use machine::State;
+use machine::Step;
+use machine::Supplied;
+ghost use mathlib.Core.Path.{_≡_};
+ghost use Rattle.machine.specs.Outcome.{Met};
+ghost use Rattle.machine.specs.Check.{newBond, checking, checkOf};
+
+// A command in WaitingDHKeyEa. Any wrong length fails as a wrong check does.
+pub fn check(state: State, code: u8, payload: &[u8], supplied: Supplied, out: &mut [u8]) -> Step
+    ensures { λ r. ⌜ Met (checkOf state code (now (payload .entry)) supplied) r (now (out .entry)) (now (out .exit)) ⌝ }
+{
+    if code != 13 {
+        return state.failed(Failure::InvalidState);
+    }
+    if payload.len() != 16 {
+        return state.failed(Failure::DHKeyCheckFailed);
+    }
+    check_value(state, octets::reversed16(payload), supplied, out)
+}
+
+// The peer's check against the right one. Ours goes out, and the link is to be encrypted with the link key that came of the exchange.
+pub fn check_value(state: State, ea: [u8; 16], supplied: Supplied, out: &mut [u8]) -> Step
+    ensures { λ r. ⌜ Met (checking state ea supplied) r (now (out .entry)) (now (out .exit)) ⌝ }
+{
+    let right = supplied.ea;
+    if octets::equal16(ea, right) {
+        let eb = supplied.eb;
+        let ltk = supplied.ltk;
+        let sent = frames::dhkey_check(out, eb);
+        let bond = new_bond(state, ltk);
+        let mut next = state.at(Phase::WaitingLinkEncrypted);
+        let kept = MaybeBond { there: true, bond };
+        next.bond = kept;
+        return Step {
+            state: next,
+            sent,
+            first: ConnectionEvent::Nothing,
+            second: ConnectionEvent::Nothing,
+            action: Action {
+                kind: ActionKind::EnableEncryption,
+                bond,
+            },
+            answer: Answer::Taken,
+        };
+    }
+    state.failed(Failure::DHKeyCheckFailed)
+}
+
+// The bond of this pairing: link key, the method's level, the peer's address, no IRK yet.
+fn new_bond(state: State, ltk: [u8; 16]) -> Bond
+    ensures { λ r. ⌜ r ≡ newBond state ltk ⌝ }
+{
+    let method = state.method;
+    let address = state.peer;
+    Bond {
+        ltk,
+        level: method.security_level(),
+        address,
+        irk: [0u8; 16],
+    }
+}

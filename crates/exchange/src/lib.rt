@@ -1,0 +1,164 @@
+// The exchange of public keys (Part H 2.3.5.6.1): the step of WaitingPublicKey, and the first move of each method.
+use machine::Configured;
+use machine::ConnectionEvent;
+use machine::Failure;
+use machine::Phase;
+use machine::Refusal;
+use machine::Secrets;
+use machine::State;
+use machine::Step;
+use machine::Supplied;
+use method::PairingMethod;
+use method::PassKeyEntryAction;
+ghost use mathlib.Core.Path.{_≡_};
+ghost use lib.ListN.{take, drop};
+ghost use Rattle.octets.specs.Octets.{turned};
+ghost use Rattle.machine.specs.Outcome.{Met, to, goes};
+ghost use Rattle.machine.specs.Exchange.{ourKey, comparing, showing, shown, begins, keyOf};
+
+// A command in WaitingPublicKey. Our key leaves only where the peer's is known to be valid.
+pub fn public_key(
+    state: State,
+    code: u8,
+    payload: &[u8],
+    supplied: Supplied,
+    out: &mut [u8],
+) -> Step
+    ensures { λ r. ⌜ Met (keyOf state code (now (payload .entry)) supplied) r (now (out .entry)) (now (out .exit)) ⌝ }
+{
+    if code != 12 {
+        return state.failed(Failure::InvalidState);
+    }
+    if payload.len() != 64 {
+        return state.failed(Failure::InvalidParameters);
+    }
+    if supplied.dhvalid {
+        let dhkey = supplied.dhkey;
+        let secrets = Secrets::fresh(peer_x(payload), dhkey);
+        let method = state.method;
+        return begin(method, state, secrets, supplied, out);
+    }
+    state.failed(Failure::DHKeyCheckFailed)
+}
+
+// The x coordinate of a public key of 64 octets, and the y coordinate; zeros where there are fewer, or other, octets.
+pub fn peer_x(payload: &[u8]) -> [u8; 32]
+    ensures { λ r. ⌜ r ≡ turned 32 (take 32 (now (payload .entry))) ⌝ }
+{
+    if payload.len() < 32 {
+        return octets::reversed32(payload);
+    }
+    octets::reversed32(&payload[0..32])
+}
+
+pub fn peer_y(payload: &[u8]) -> [u8; 32]
+    ensures { λ r. ⌜ r ≡ turned 32 (drop 32 (now (payload .entry))) ⌝ }
+{
+    if payload.len() < 32 {
+        return [0u8; 32];
+    }
+    octets::reversed32(&payload[32..])
+}
+
+// The method's first move.
+fn begin(
+    method: PairingMethod,
+    state: State,
+    secrets: Secrets,
+    supplied: Supplied,
+    out: &mut [u8],
+) -> Step
+    ensures { λ r. ⌜ Met (begins method state secrets supplied) r (now (out .entry)) (now (out .exit)) ⌝ }
+{
+    let setup = state.setup;
+    let configured = setup.passkey;
+    match method {
+        PairingMethod::JustWorks => compare(state, secrets, supplied, out),
+        PairingMethod::NumericComparison => compare(state, secrets, supplied, out),
+        PairingMethod::PassKeyEntry {
+            central: _central,
+            peripheral,
+        } => match peripheral {
+            PassKeyEntryAction::Display => show(configured, state, secrets, supplied.passkey, out),
+            PassKeyEntryAction::Input => send_key(
+                state,
+                Phase::WaitingPassKeyInput(false),
+                secrets,
+                ConnectionEvent::PassKeyInput,
+                out,
+            ),
+        },
+        PairingMethod::OutOfBand => send_key(
+            state,
+            Phase::WaitingOobData,
+            secrets,
+            ConnectionEvent::OobRequest,
+            out,
+        ),
+    }
+}
+
+// Just Works and numeric comparison: our nonce is drawn, and our confirm goes behind our key.
+fn compare(state: State, secrets: Secrets, supplied: Supplied, out: &mut [u8]) -> Step
+    ensures { λ r. ⌜ Met (comparing state secrets supplied) r (now (out .entry)) (now (out .exit)) ⌝ }
+{
+    let setup = state.setup;
+    let x = setup.pkbx;
+    let y = setup.pkby;
+    let f4 = supplied.f4;
+    let nb = supplied.nonce;
+    let sent = frames::public_key_confirm(out, x, y, f4);
+    let mut drawn = secrets;
+    drawn.nb = nb;
+    state.goes(
+        Phase::WaitingNumericComparisonRandom,
+        drawn,
+        sent,
+        ConnectionEvent::Nothing,
+    )
+}
+
+// The passkey is shown here: the configured one, or a drawn one in range.
+fn show(configured: Configured, state: State, secrets: Secrets, drawn: u32, out: &mut [u8]) -> Step
+    ensures { λ r. ⌜ Met (shown configured state secrets drawn) r (now (out .entry)) (now (out .exit)) ⌝ }
+{
+    match configured {
+        Configured::Nothing => {
+            if rounds::in_range(drawn) {
+                return show_passkey(state, secrets, drawn, out);
+            }
+            state.refused(Refusal::PasskeyRange)
+        }
+        Configured::Passkey(passkey) => show_passkey(state, secrets, passkey, out),
+    }
+}
+
+fn show_passkey(state: State, secrets: Secrets, passkey: u32, out: &mut [u8]) -> Step
+    ensures { λ r. ⌜ Met (showing state secrets passkey) r (now (out .entry)) (now (out .exit)) ⌝ }
+{
+    let keyed = secrets.with_passkey(passkey);
+    send_key(
+        state,
+        Phase::WaitingPassKeyEntryConfirm(0),
+        keyed,
+        ConnectionEvent::PassKeyDisplay(passkey),
+        out,
+    )
+}
+
+// Our public key goes out.
+fn send_key(
+    state: State,
+    phase: Phase,
+    secrets: Secrets,
+    event: ConnectionEvent,
+    out: &mut [u8],
+) -> Step
+    ensures { λ r. ⌜ Met (goes (to state phase secrets) (ourKey state) event) r (now (out .entry)) (now (out .exit)) ⌝ }
+{
+    let setup = state.setup;
+    let x = setup.pkbx;
+    let y = setup.pkby;
+    let sent = frames::public_key(out, x, y);
+    state.goes(phase, secrets, sent, event)
+}

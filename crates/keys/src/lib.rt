@@ -1,0 +1,173 @@
+// The encrypted link and the distribution of identity keys (Part H 2.4.3.1, 3.6.1): the steps of WaitingLinkEncrypted,
+// WaitingIdentitityInformation and WaitingIdentitityAddressInformation, and a bonded link that is encrypted before any request.
+use address::Address;
+use machine::ConnectionEvent;
+use machine::Event;
+use machine::Failure;
+use machine::MaybeBond;
+use machine::Phase;
+use machine::State;
+use machine::Step;
+ghost use mathlib.Core.Path.{_≡_};
+ghost use Rattle.octets.specs.Write.{Wrote};
+ghost use Rattle.machine.specs.Outcome.{Met, Quiet};
+ghost use Rattle.machine.specs.Keys.{
+  ourIdentity,
+  encrypting,
+  encryptedOf,
+  bondedLinkOf,
+  bondedLinkEvent,
+  encryptedEvent,
+  withIrk,
+  withAddress,
+  identityInformationOf,
+  identityAddressOf,
+};
+
+// An event in WaitingPairingRequest: a bonded link may be encrypted with no pairing at all.
+pub fn bonded_link_event(state: State, event: Event, out: &mut [u8]) -> Step
+    ensures { λ r. ⌜ Met (bondedLinkEvent state event) r (now (out .entry)) (now (out .exit)) ⌝ }
+{
+    match event {
+        Event::LinkEncryptedResult(ok) => bonded_link(state, ok, out),
+        Event::PassKeyConfirm => state.failed(Failure::InvalidState),
+        Event::PassKeyCancel => state.failed(Failure::InvalidState),
+        Event::PassKeyInput(_passkey) => state.failed(Failure::InvalidState),
+        Event::OobDataReceived => state.failed(Failure::InvalidState),
+    }
+}
+
+// An event in WaitingLinkEncrypted.
+pub fn encrypted_event(state: State, event: Event, out: &mut [u8]) -> Step
+    ensures { λ r. ⌜ Met (encryptedEvent state event) r (now (out .entry)) (now (out .exit)) ⌝ }
+{
+    match event {
+        Event::LinkEncryptedResult(ok) => encrypted(state, ok, out),
+        Event::PassKeyConfirm => state.failed(Failure::InvalidState),
+        Event::PassKeyCancel => state.failed(Failure::InvalidState),
+        Event::PassKeyInput(_passkey) => state.failed(Failure::InvalidState),
+        Event::OobDataReceived => state.failed(Failure::InvalidState),
+    }
+}
+
+// A command in WaitingIdentitityInformation: the peer's IRK.
+pub fn identity_information(state: State, code: u8, payload: &[u8]) -> Step
+    ensures { λ r. ⌜ Quiet (identityInformationOf state code (now (payload .entry))) r ⌝ }
+{
+    if code != 8 {
+        return state.failed(Failure::InvalidState);
+    }
+    if payload.len() != 16 {
+        return state.failed(Failure::InvalidValue);
+    }
+    let bond = state.bond;
+    let secrets = state.secrets;
+    let mut kept = state;
+    let with_irk = bond_with_irk(bond, octets::reversed16(payload));
+    kept.bond = with_irk;
+    kept.goes(
+        Phase::WaitingIdentitityAddressInformation,
+        secrets,
+        0,
+        ConnectionEvent::Nothing,
+    )
+}
+
+// A command in WaitingIdentitityAddressInformation: with it the pairing is a success, and not before.
+pub fn identity_address(state: State, code: u8, payload: &[u8]) -> Step
+    ensures { λ r. ⌜ Quiet (identityAddressOf state code (now (payload .entry))) r ⌝ }
+{
+    if code != 9 {
+        return state.failed(Failure::InvalidState);
+    }
+    let received = address::decode(payload);
+    let identity = received.address;
+    if received.valid {
+        let bond = state.bond;
+        let mut known = state;
+        let with_address = bond_with_address(bond, identity);
+        known.bond = with_address;
+        known.peer = identity;
+        return known.succeeded(0);
+    }
+    state.failed(Failure::InvalidValue)
+}
+
+fn bonded_link(state: State, ok: bool, out: &mut [u8]) -> Step
+    ensures { λ r. ⌜ Met (bondedLinkOf state ok) r (now (out .entry)) (now (out .exit)) ⌝ }
+{
+    if ok {
+        let setup = state.setup;
+        let known = setup.known;
+        let mut bonded = state;
+        bonded.bond = known;
+        return distribute(bonded, out);
+    }
+    state.failed(Failure::KeyRejected)
+}
+
+fn encrypted(state: State, ok: bool, out: &mut [u8]) -> Step
+    ensures { λ r. ⌜ Met (encryptedOf state ok) r (now (out .entry)) (now (out .exit)) ⌝ }
+{
+    if ok {
+        return distribute(state, out);
+    }
+    state.failed(Failure::KeyRejected)
+}
+
+// Our identity keys go first; the peer's are waited for where it said that it sends them.
+fn distribute(state: State, out: &mut [u8]) -> Step
+    ensures { λ r. ⌜ Met (encrypting state) r (now (out .entry)) (now (out .exit)) ⌝ }
+{
+    let features = state.features;
+    let secrets = state.secrets;
+    let sent = send_identity(state, out);
+    if features::identity_key(features.initiator) {
+        return state.goes(
+            Phase::WaitingIdentitityInformation,
+            secrets,
+            sent,
+            ConnectionEvent::Nothing,
+        );
+    }
+    state.succeeded(sent)
+}
+
+// Our IRK and identity address, where our responder identity bit is set.
+fn send_identity(state: State, out: &mut [u8]) -> usize
+    ensures { λ r. ⌜ Wrote (ourIdentity state) (now (out .entry)) r (now (out .exit)) ⌝ }
+{
+    let setup = state.setup;
+    let features = state.features;
+    let local = request::local_features(setup, features);
+    let irk = setup.irk;
+    let identity = setup.identity;
+    if features::identity_key(local.responder) {
+        return frames::identity(out, irk, identity);
+    }
+    0
+}
+
+// A bond, if there is one, with the peer's IRK.
+fn bond_with_irk(held: MaybeBond, irk: [u8; 16]) -> MaybeBond
+    ensures { λ r. ⌜ r ≡ withIrk held irk ⌝ }
+{
+    if held.there {
+        let mut bond = held.bond;
+        bond.irk = irk;
+        return MaybeBond { there: true, bond };
+    }
+    held
+}
+
+// A bond, if there is one, with the peer's identity address.
+fn bond_with_address(held: MaybeBond, address: Address) -> MaybeBond
+    ensures { λ r. ⌜ r ≡ withAddress held address ⌝ }
+{
+    if held.there {
+        let mut bond = held.bond;
+        bond.address = address;
+        return MaybeBond { there: true, bond };
+    }
+    held
+}

@@ -1,0 +1,13 @@
+pub mod Numbers
+pub mod Outcome
+pub mod Secrets
+pub mod Hold
+pub mod Request
+pub mod Exchange
+pub mod Check
+pub mod Numeric
+pub mod Passkey
+pub mod Oob
+pub mod Keys
+pub mod Step
+pub mod Questions

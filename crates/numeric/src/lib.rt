@@ -1,0 +1,115 @@
+// Numeric comparison and Just Works (Part H 2.3.5.6.2): the steps of WaitingNumericComparisonRandom and WaitingNumericComparisonResult.
+use machine::ConnectionEvent;
+use machine::Event;
+use machine::Failure;
+use machine::Phase;
+use machine::State;
+use machine::Step;
+use machine::Supplied;
+use method::PairingMethod;
+ghost use Rattle.machine.specs.Outcome.{Met, Quiet};
+ghost use Rattle.machine.specs.Numeric.{compares, comparisonRandomOf, holdCheckOf, confirmedOf, comparisonEvent};
+
+// A command in WaitingNumericComparisonRandom: the peer's nonce, which ours answers.
+pub fn comparison_random(
+    state: State,
+    code: u8,
+    payload: &[u8],
+    supplied: Supplied,
+    out: &mut [u8],
+) -> Step
+    ensures { λ r. ⌜ Met (comparisonRandomOf state code (now (payload .entry)) supplied) r (now (out .entry)) (now (out .exit)) ⌝ }
+{
+    if code != 4 {
+        return state.failed(Failure::InvalidState);
+    }
+    if payload.len() != 16 {
+        return state.failed(Failure::InvalidParameters);
+    }
+    let method = state.method;
+    compare(method, state, octets::reversed16(payload), supplied.g2, out)
+}
+
+// A command in WaitingNumericComparisonResult: one early DHKey check is held.
+pub fn hold_check(state: State, held: bool, code: u8, payload: &[u8]) -> Step
+    ensures { λ r. ⌜ Quiet (holdCheckOf state held code (now (payload .entry))) r ⌝ }
+{
+    state.holds(
+        held,
+        13,
+        code,
+        payload,
+        Phase::WaitingNumericComparisonResult(true),
+    )
+}
+
+// An event in WaitingNumericComparisonResult: the user's yes or no.
+pub fn comparison_event(
+    state: State,
+    held: bool,
+    event: Event,
+    supplied: Supplied,
+    out: &mut [u8],
+) -> Step
+    ensures { λ r. ⌜ Met (comparisonEvent state held event supplied) r (now (out .entry)) (now (out .exit)) ⌝ }
+{
+    match event {
+        Event::LinkEncryptedResult(_ok) => state.failed(Failure::InvalidState),
+        Event::PassKeyConfirm => confirmed(state, held, supplied, out),
+        Event::PassKeyCancel => state.failed(Failure::NumericComparisonFailed),
+        Event::PassKeyInput(_passkey) => state.failed(Failure::InvalidState),
+        Event::OobDataReceived => state.failed(Failure::InvalidState),
+    }
+}
+
+// Our nonce goes out. Just Works goes on; else the user compares six digits.
+fn compare(method: PairingMethod, state: State, na: [u8; 16], g2: u32, out: &mut [u8]) -> Step
+    ensures { λ r. ⌜ Met (compares method state na g2) r (now (out .entry)) (now (out .exit)) ⌝ }
+{
+    let mut secrets = state.secrets;
+    let nb = secrets.nb;
+    secrets.na = na;
+    let sent = frames::random(out, nb);
+    let shown = ConnectionEvent::PassKeyConfirm(g2 % 1_000_000);
+    match method {
+        PairingMethod::JustWorks => state.goes(
+            Phase::WaitingDHKeyEa,
+            secrets,
+            sent,
+            ConnectionEvent::Nothing,
+        ),
+        PairingMethod::NumericComparison => state.goes(
+            Phase::WaitingNumericComparisonResult(false),
+            secrets,
+            sent,
+            shown,
+        ),
+        PairingMethod::PassKeyEntry {
+            central: _central,
+            peripheral: _peripheral,
+        } => state.goes(
+            Phase::WaitingNumericComparisonResult(false),
+            secrets,
+            sent,
+            shown,
+        ),
+        PairingMethod::OutOfBand => state.goes(
+            Phase::WaitingNumericComparisonResult(false),
+            secrets,
+            sent,
+            shown,
+        ),
+    }
+}
+
+// The user's yes: a held check is handled, or the check is waited for.
+fn confirmed(state: State, held: bool, supplied: Supplied, out: &mut [u8]) -> Step
+    ensures { λ r. ⌜ Met (confirmedOf state held supplied) r (now (out .entry)) (now (out .exit)) ⌝ }
+{
+    let secrets = state.secrets;
+    let early = secrets.held;
+    if held {
+        return dhkey::check_value(state, early, supplied, out);
+    }
+    state.goes(Phase::WaitingDHKeyEa, secrets, 0, ConnectionEvent::Nothing)
+}

@@ -1,0 +1,107 @@
+// Out-of-band pairing (Part H 2.3.5.6.4): the steps of WaitingOobData and WaitingOobRandom.
+use features::UseOutOfBand;
+use machine::ConnectionEvent;
+use machine::Event;
+use machine::Failure;
+use machine::OobData;
+use machine::Phase;
+use machine::State;
+use machine::Step;
+use machine::Supplied;
+ghost use mathlib.Core.Path.{_≡_};
+ghost use mathlib.Core.Bool.{cond};
+ghost use Rattle.octets.specs.Octets.{zeros};
+ghost use Rattle.method.specs.Method.{set};
+ghost use Rattle.machine.specs.Outcome.{Met, Quiet};
+ghost use Rattle.machine.specs.Oob.{agrees, oobDataOf, oobRandomOf, oobEvent};
+
+// An event in WaitingOobData: the data.
+pub fn oob_event(state: State, event: Event, values: OobData, supplied: Supplied) -> Step
+    ensures { λ r. ⌜ Quiet (oobEvent state event values supplied) r ⌝ }
+{
+    match event {
+        Event::LinkEncryptedResult(_ok) => state.failed(Failure::InvalidState),
+        Event::PassKeyConfirm => state.failed(Failure::InvalidState),
+        Event::PassKeyCancel => state.failed(Failure::InvalidState),
+        Event::PassKeyInput(_passkey) => state.failed(Failure::InvalidState),
+        Event::OobDataReceived => received(state, values, supplied),
+    }
+}
+
+// A command in WaitingOobRandom: the peer's nonce, which a fresh one of ours answers.
+pub fn oob_random(
+    state: State,
+    code: u8,
+    payload: &[u8],
+    supplied: Supplied,
+    out: &mut [u8],
+) -> Step
+    ensures { λ r. ⌜ Met (oobRandomOf state code (now (payload .entry)) supplied) r (now (out .entry)) (now (out .exit)) ⌝ }
+{
+    if code != 4 {
+        return state.failed(Failure::InvalidState);
+    }
+    if payload.len() != 16 {
+        return state.failed(Failure::InvalidValue);
+    }
+    let na = octets::reversed16(payload);
+    let nb = supplied.nonce;
+    let sent = frames::random(out, nb);
+    let mut secrets = state.secrets;
+    secrets.na = na;
+    secrets.nb = nb;
+    state.goes(
+        Phase::WaitingDHKeyEa,
+        secrets,
+        sent,
+        ConnectionEvent::Nothing,
+    )
+}
+
+// The data is here: the peer's confirm must agree with it. Our secret counts only where the peer has our data.
+fn received(state: State, values: OobData, supplied: Supplied) -> Step
+    ensures { λ r. ⌜ Quiet (oobDataOf state values supplied) r ⌝ }
+{
+    if confirm_agrees(values, supplied) {
+        let features = state.features;
+        let oob = features.oob;
+        let random = values.random;
+        let local = values.local;
+        let mut secrets = state.secrets;
+        let ours = our_secret(oob, local);
+        secrets.ra = random;
+        secrets.rb = ours;
+        return state.goes(
+            Phase::WaitingOobRandom,
+            secrets,
+            0,
+            ConnectionEvent::Nothing,
+        );
+    }
+    state.failed(Failure::ConfirmValueFailed)
+}
+
+// Random and confirm all zero say that there is no data of the peer's; else the confirm must be the right one.
+fn confirm_agrees(values: OobData, supplied: Supplied) -> bool
+    ensures { λ r. ⌜ r ≡ agrees values supplied ⌝ }
+{
+    let random = values.random;
+    let confirm = values.confirm;
+    let f4 = supplied.f4;
+    if octets::all_zero16(random) {
+        if octets::all_zero16(confirm) {
+            return true;
+        }
+        return octets::equal16(confirm, f4);
+    }
+    octets::equal16(confirm, f4)
+}
+
+fn our_secret(oob: UseOutOfBand, local: [u8; 16]) -> [u8; 16]
+    ensures { λ r. ⌜ r ≡ cond (set oob) local (zeros 16) ⌝ }
+{
+    match oob {
+        UseOutOfBand::NotPresent => [0u8; 16],
+        UseOutOfBand::Present => local,
+    }
+}

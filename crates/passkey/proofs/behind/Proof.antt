@@ -1,0 +1,15 @@
+-- `passkey::behind` meets its contract. Assumes nothing.
+use mathlib.Core.Path.{sym, ap, _∙_}
+use Rattle.machine.specs.Passkey.{waits}
+use borrow.Author.Needs.{needs}
+use Rattle.passkey.proofs.behind.Statement.{statement}
+use Rattle.passkey.proofs.behind.Tie as tie
+
+returns : tie.Need-returns
+returns c = ap waits (sym (c .before .following .given .1) ∙ c .before .before .before .after .ensures)
+
+returns-2 : tie.Need-returns-2
+returns-2 c = ap waits (sym (c .enum-told .given .1) ∙ c .before .before .after .ensures)
+
+pub behind-spec : {M : Type 1} → statement M
+behind-spec = tie.close (tie.spec (λ c κs. search needs) (λ c. search needs) (λ c. search needs) returns returns-2)

@@ -1,0 +1,152 @@
+// Passkey entry (Part H 2.3.5.6.3): the steps of WaitingPassKeyInput, WaitingPassKeyEntryConfirm and WaitingPassKeyEntryRandom.
+use machine::ConnectionEvent;
+use machine::Event;
+use machine::Failure;
+use machine::Phase;
+use machine::Secrets;
+use machine::State;
+use machine::Step;
+use machine::Supplied;
+use rounds::Following;
+ghost use mathlib.Core.Path.{_≡_};
+ghost use Rattle.rounds.specs.Rounds.{afterOf};
+ghost use Rattle.machine.specs.Outcome.{Met, Quiet};
+ghost use Rattle.machine.specs.Passkey.{confirming, holdConfirmOf, typedOf, typingEvent, confirmOf, waits, randomOf};
+
+// A command in WaitingPassKeyInput: one early confirm is held.
+pub fn hold_confirm(state: State, held: bool, code: u8, payload: &[u8]) -> Step
+    ensures { λ r. ⌜ Quiet (holdConfirmOf state held code (now (payload .entry))) r ⌝ }
+{
+    state.holds(held, 3, code, payload, Phase::WaitingPassKeyInput(true))
+}
+
+// An event in WaitingPassKeyInput: the passkey, or the user's no.
+pub fn typing_event(
+    state: State,
+    held: bool,
+    event: Event,
+    supplied: Supplied,
+    out: &mut [u8],
+) -> Step
+    ensures { λ r. ⌜ Met (typingEvent state held event supplied) r (now (out .entry)) (now (out .exit)) ⌝ }
+{
+    match event {
+        Event::LinkEncryptedResult(_ok) => state.failed(Failure::InvalidState),
+        Event::PassKeyConfirm => state.failed(Failure::InvalidState),
+        Event::PassKeyCancel => state.failed(Failure::PasskeyEntryFailed),
+        Event::PassKeyInput(passkey) => typed(state, held, passkey, supplied, out),
+        Event::OobDataReceived => state.failed(Failure::InvalidState),
+    }
+}
+
+// A command in WaitingPassKeyEntryConfirm.
+pub fn confirm(
+    state: State,
+    round: u8,
+    code: u8,
+    payload: &[u8],
+    supplied: Supplied,
+    out: &mut [u8],
+) -> Step
+    ensures { λ r. ⌜ Met (confirmOf state round code (now (payload .entry)) supplied) r (now (out .entry)) (now (out .exit)) ⌝ }
+{
+    if code != 3 {
+        return state.failed(Failure::InvalidState);
+    }
+    if payload.len() != 16 {
+        return state.failed(Failure::InvalidParameters);
+    }
+    let secrets = state.secrets;
+    confirm_round(
+        state,
+        secrets,
+        round,
+        octets::reversed16(payload),
+        supplied,
+        out,
+    )
+}
+
+// A command in WaitingPassKeyEntryRandom: our nonce leaves only where the kept confirm is the right one.
+pub fn random(
+    state: State,
+    round: u8,
+    code: u8,
+    payload: &[u8],
+    supplied: Supplied,
+    out: &mut [u8],
+) -> Step
+    ensures { λ r. ⌜ Met (randomOf state round code (now (payload .entry)) supplied) r (now (out .entry)) (now (out .exit)) ⌝ }
+{
+    if code != 4 {
+        return state.failed(Failure::InvalidState);
+    }
+    if payload.len() != 16 {
+        return state.failed(Failure::InvalidParameters);
+    }
+    let mut secrets = state.secrets;
+    let ca = secrets.ca;
+    let f4 = supplied.f4;
+    if octets::equal16(ca, f4) {
+        let nb = secrets.nb;
+        let sent = frames::random(out, nb);
+        let na = octets::reversed16(payload);
+        secrets.na = na;
+        return state.goes(behind(round), secrets, sent, ConnectionEvent::Nothing);
+    }
+    state.failed(Failure::ConfirmValueFailed)
+}
+
+// The passkey was typed: it becomes both secrets, and a held confirm is round 0's.
+fn typed(state: State, held: bool, passkey: u32, supplied: Supplied, out: &mut [u8]) -> Step
+    ensures { λ r. ⌜ Met (typedOf state held passkey supplied) r (now (out .entry)) (now (out .exit)) ⌝ }
+{
+    let secrets = state.secrets;
+    let early = secrets.held;
+    let keyed = secrets.with_passkey(passkey);
+    if held {
+        return confirm_round(state, keyed, 0, early, supplied, out);
+    }
+    state.goes(
+        Phase::WaitingPassKeyEntryConfirm(0),
+        keyed,
+        0,
+        ConnectionEvent::Nothing,
+    )
+}
+
+// A round's confirm is kept, our nonce is drawn for it, and our confirm goes out.
+fn confirm_round(
+    state: State,
+    secrets: Secrets,
+    round: u8,
+    ca: [u8; 16],
+    supplied: Supplied,
+    out: &mut [u8],
+) -> Step
+    ensures { λ r. ⌜ Met (confirming state secrets round ca supplied) r (now (out .entry)) (now (out .exit)) ⌝ }
+{
+    let f4 = supplied.f4;
+    let nb = supplied.nonce;
+    let sent = frames::confirm(out, f4);
+    let mut kept = secrets;
+    kept.ca = ca;
+    kept.nb = nb;
+    state.goes(
+        Phase::WaitingPassKeyEntryRandom(round),
+        kept,
+        sent,
+        ConnectionEvent::Nothing,
+    )
+}
+
+// What is waited for behind a round.
+fn behind(round: u8) -> Phase
+    ensures { λ r. ⌜ r ≡ waits (afterOf round) ⌝ }
+{
+    let following = rounds::after(round);
+    match following {
+        Following::Round(next) => Phase::WaitingPassKeyEntryConfirm(next),
+        Following::DHKeyCheck => Phase::WaitingDHKeyEa,
+    }
+}

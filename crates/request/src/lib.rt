@@ -1,0 +1,138 @@
+// The pairing request (Part H 2.3.5.1, 3.5.1, 3.5.2): what makes one acceptable, what we say of ourselves, and the step of
+// WaitingPairingRequest.
+use features::Decoded;
+use features::IoCapabilities;
+use features::PairingFeatures;
+use machine::Acceptance;
+use machine::Answer;
+use machine::ConnectionEvent;
+use machine::Failure;
+use machine::Phase;
+use machine::Setup;
+use machine::State;
+use machine::Step;
+ghost use mathlib.Core.Path.{_≡_};
+ghost use mathlib.Core.Bool.{cond, not, _&&_};
+ghost use Rattle.octets.specs.Octets.{allZero};
+ghost use Rattle.features.specs.Bits.{identityBit};
+ghost use Rattle.machine.specs.Outcome.{Met};
+ghost use Rattle.machine.specs.Request.{acceptOf, interactive, localFeatures, lost, accepting, requestOf};
+
+// The tests of a request, in their order: six octets that say features, Secure Connections, a key size of at least 16.
+pub fn accept(payload: &[u8]) -> Acceptance
+    ensures { λ r. ⌜ r ≡ acceptOf (now (payload .entry)) ⌝ }
+{
+    let decoded = features::decode(payload);
+    match decoded {
+        Decoded::Refused => Acceptance::Rejected(Failure::InvalidParameters),
+        Decoded::Features(peer) => {
+            if peer.secure_connection() {
+                if peer.keysize < 16 {
+                    return Acceptance::Rejected(Failure::EncryptionKeySize);
+                }
+                return Acceptance::Accepted(peer);
+            }
+            Acceptance::Rejected(Failure::AuthenticationRequirements)
+        }
+    }
+}
+
+// What we say of ourselves to a peer. Its identity bits set ours, the responder's only if we have an IRK.
+pub fn local_features(setup: Setup, peer: PairingFeatures) -> PairingFeatures
+    ensures { λ r. ⌜ r ≡ localFeatures setup peer ⌝ }
+{
+    let io = setup.io;
+    let oob = setup.oob;
+    let irk = setup.irk;
+    PairingFeatures {
+        io,
+        oob,
+        authreq: features::auth_req(setup.bonding, interactive_io(io)),
+        keysize: 16,
+        initiator: identity_octet(features::identity_key(peer.initiator)),
+        responder: identity_octet(distributes(peer.responder, irk)),
+    }
+}
+
+// A command in WaitingPairingRequest.
+pub fn request(state: State, code: u8, payload: &[u8], out: &mut [u8]) -> Step
+    ensures { λ r. ⌜ Met (requestOf state code (now (payload .entry))) r (now (out .entry)) (now (out .exit)) ⌝ }
+{
+    if code != 1 {
+        return state.failed(Failure::InvalidState);
+    }
+    answer(state, accept(payload), out)
+}
+
+// The request is answered with our features; a known bond is lost either way.
+fn answer(state: State, acceptance: Acceptance, out: &mut [u8]) -> Step
+    ensures { λ r. ⌜ Met (accepting state acceptance) r (now (out .entry)) (now (out .exit)) ⌝ }
+{
+    match acceptance {
+        Acceptance::Rejected(failure) => state.failed_after(lost_bond(state), failure),
+        Acceptance::Accepted(peer) => {
+            let setup = state.setup;
+            let local = local_features(setup, peer);
+            let sent = frames::pairing_response(out, local);
+            let secrets = state.secrets;
+            let bond = state.bond;
+            let address = state.peer;
+            Step {
+                state: State {
+                    phase: Phase::WaitingPublicKey,
+                    setup,
+                    features: peer,
+                    method: method::choose_pairing_method(peer, local),
+                    secrets,
+                    bond,
+                    peer: address,
+                },
+                sent,
+                first: lost_bond(state),
+                second: ConnectionEvent::Nothing,
+                action: machine::no_action(),
+                answer: Answer::Taken,
+            }
+        }
+    }
+}
+
+fn lost_bond(state: State) -> ConnectionEvent
+    ensures { λ r. ⌜ r ≡ lost state ⌝ }
+{
+    let setup = state.setup;
+    let known = setup.known;
+    if known.there {
+        return ConnectionEvent::BondLost;
+    }
+    ConnectionEvent::Nothing
+}
+
+fn interactive_io(io: IoCapabilities) -> bool
+    ensures { λ r. ⌜ r ≡ interactive io ⌝ }
+{
+    match io {
+        IoCapabilities::DisplayOnly => true,
+        IoCapabilities::DisplayYesNo => true,
+        IoCapabilities::KeyboardOnly => true,
+        IoCapabilities::NoInputNoOutput => false,
+        IoCapabilities::KeyboardDisplay => true,
+    }
+}
+
+// A key distribution octet of ours: the identity bit, or nothing.
+fn identity_octet(set: bool) -> u8
+    ensures { λ r. ⌜ r ≡ cond set 2 0 ⌝ }
+{
+    if set { 2 } else { 0 }
+}
+
+// Whether we send our identity key: the peer wants it, and we have one.
+fn distributes(responder: u8, irk: [u8; 16]) -> bool
+    ensures { λ r. ⌜ r ≡ (identityBit responder && not (allZero irk)) ⌝ }
+{
+    if features::identity_key(responder) {
+        return !octets::all_zero16(irk);
+    }
+    false
+}
