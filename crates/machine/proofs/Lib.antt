@@ -1,2 +1,9 @@
 pub mod Outcome
 pub mod Unique
+pub mod Ends
+pub mod Refusals
+pub mod Failures
+pub mod Finished
+pub mod Reading
+pub mod Asking
+pub mod Samples

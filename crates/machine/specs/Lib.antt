@@ -11,3 +11,8 @@ pub mod Oob
 pub mod Keys
 pub mod Step
 pub mod Questions
+pub mod Refusals
+pub mod Failures
+pub mod Reading
+pub mod Fresh
+pub mod Samples

@@ -33,6 +33,11 @@ abbrev pub noQuestion : Question
 noQuestion =
     record { kind = Q.Nothing; u = zeros 32; v = zeros 32; key = zeros 16; n1 = zeros 16; n2 = zeros 16; r = zeros 16; z = 0; iocap = zeros 3; a1 = nowhere; a2 = nowhere }
 
+-- a question's arguments under a kind
+abbrev pub kinded : QuestionKind → Question → Question
+kinded k q =
+    record { kind = k; u = q .u; v = q .v; key = q .key; n1 = q .n1; n2 = q .n2; r = q .r; z = q .z; iocap = q .iocap; a1 = q .a1; a2 = q .a2 }
+
 -- the DHKey of a public key
 abbrev pub askDh : List ℕ → List ℕ → Question
 askDh x y =

@@ -1,0 +1,577 @@
+// The query: for a state, an input, the drawn values and the answers so far, the next question to the cryptography outside, with all
+// its arguments, or none. It changes nothing and takes no outbox.
+use address::Address;
+use address::AddressKind;
+use machine::Event;
+use machine::Given;
+use machine::OobData;
+use machine::Phase;
+use machine::Question;
+use machine::QuestionKind;
+use machine::State;
+use machine::Supplied;
+use method::PairingMethod;
+ghost use mathlib.Core.Path.{_≡_};
+ghost use mathlib.Core.Bool.{cond};
+ghost use Rattle.machine.specs.Step.{command, event, ranged};
+ghost use Rattle.machine.specs.Questions.{
+  noQuestion,
+  askDh,
+  askF4,
+  askG2,
+  askF6,
+  kinded,
+  askLtk,
+  askEa,
+  askEb,
+  keyAsks,
+  compareAsks,
+  checkAsks,
+  confirmAsks,
+  commandAsks,
+  comparisonAsks,
+  typingAsks,
+  receivedAsks,
+  oobAsks,
+  eventAsks,
+  questions,
+  nextOf,
+};
+
+// The next question of a command.
+pub fn of_command(state: State, cmd: &[u8], supplied: Supplied, given: Given) -> Question
+    ensures { λ r. ⌜ r ≡ nextOf given (questions state (command (now (cmd .entry))) supplied) ⌝ }
+{
+    if state.finished() {
+        return none();
+    }
+    if cmd.len() == 0 {
+        return none();
+    }
+    let phase = state.phase;
+    let code = cmd[0];
+    by_command(phase, state, code, &cmd[1..], supplied, given)
+}
+
+// The next question of an event.
+pub fn of_event(
+    state: State,
+    came: Event,
+    values: OobData,
+    supplied: Supplied,
+    given: Given,
+) -> Question
+    ensures { λ r. ⌜ r ≡ nextOf given (questions state (event came values) supplied) ⌝ }
+{
+    if state.finished() {
+        return none();
+    }
+    if in_range(came, values) {
+        let phase = state.phase;
+        return by_event(phase, state, came, values, supplied, given);
+    }
+    none()
+}
+
+// Whether the passkey of an event is one; an event without a passkey has nothing to refuse.
+pub fn in_range(came: Event, values: OobData) -> bool
+    ensures { λ r. ⌜ r ≡ ranged (event came values) ⌝ }
+{
+    match came {
+        Event::LinkEncryptedResult(_ok) => true,
+        Event::PassKeyConfirm => true,
+        Event::PassKeyCancel => true,
+        Event::PassKeyInput(passkey) => rounds::in_range(passkey),
+        Event::OobDataReceived => true,
+    }
+}
+
+fn by_command(
+    phase: Phase,
+    state: State,
+    code: u8,
+    payload: &[u8],
+    supplied: Supplied,
+    given: Given,
+) -> Question
+    ensures { λ r. ⌜ r ≡ nextOf given (commandAsks phase state code (now (payload .entry)) supplied) ⌝ }
+{
+    match phase {
+        Phase::WaitingPairingRequest => none(),
+        Phase::WaitingPublicKey => key(state, code, payload, supplied, given),
+        Phase::WaitingNumericComparisonRandom => comparison(state, code, payload, supplied, given),
+        Phase::WaitingNumericComparisonResult(_held) => none(),
+        Phase::WaitingPassKeyInput(_held) => none(),
+        Phase::WaitingPassKeyEntryConfirm(round) => confirm(
+            state,
+            round,
+            code,
+            payload,
+            supplied,
+            given,
+        ),
+        Phase::WaitingPassKeyEntryRandom(round) => random(
+            state,
+            round,
+            code,
+            payload,
+            supplied,
+            given,
+        ),
+        Phase::WaitingOobData => none(),
+        Phase::WaitingOobRandom => none(),
+        Phase::WaitingDHKeyEa => check(state, code, payload, supplied, given),
+        Phase::WaitingLinkEncrypted => none(),
+        Phase::WaitingIdentitityInformation => none(),
+        Phase::WaitingIdentitityAddressInformation => none(),
+        Phase::Success => none(),
+        Phase::Error(_failure) => none(),
+    }
+}
+
+fn by_event(
+    phase: Phase,
+    state: State,
+    came: Event,
+    values: OobData,
+    supplied: Supplied,
+    given: Given,
+) -> Question
+    ensures { λ r. ⌜ r ≡ nextOf given (eventAsks phase state came values supplied) ⌝ }
+{
+    match phase {
+        Phase::WaitingPairingRequest => none(),
+        Phase::WaitingPublicKey => none(),
+        Phase::WaitingNumericComparisonRandom => none(),
+        Phase::WaitingNumericComparisonResult(held) => compared(state, held, came, supplied, given),
+        Phase::WaitingPassKeyInput(held) => typed(state, held, came, supplied, given),
+        Phase::WaitingPassKeyEntryConfirm(_round) => none(),
+        Phase::WaitingPassKeyEntryRandom(_round) => none(),
+        Phase::WaitingOobData => received(state, came, values, given),
+        Phase::WaitingOobRandom => none(),
+        Phase::WaitingDHKeyEa => none(),
+        Phase::WaitingLinkEncrypted => none(),
+        Phase::WaitingIdentitityInformation => none(),
+        Phase::WaitingIdentitityAddressInformation => none(),
+        Phase::Success => none(),
+        Phase::Error(_failure) => none(),
+    }
+}
+
+// WaitingPublicKey: the DHKey, and behind a valid key our confirm.
+fn key(state: State, code: u8, payload: &[u8], supplied: Supplied, given: Given) -> Question
+    ensures { λ r. ⌜ r ≡ nextOf given (commandAsks Phase.WaitingPublicKey state code (now (payload .entry)) supplied) ⌝ }
+{
+    if code != 12 {
+        return none();
+    }
+    if payload.len() != 64 {
+        return none();
+    }
+    let x = exchange::peer_x(payload);
+    if given.dh {
+        if supplied.dhvalid {
+            let method = state.method;
+            return our_confirm(method, state, x, supplied, given);
+        }
+        return none();
+    }
+    ask_dh(x, exchange::peer_y(payload))
+}
+
+fn our_confirm(
+    method: PairingMethod,
+    state: State,
+    x: [u8; 32],
+    supplied: Supplied,
+    given: Given,
+) -> Question
+    ensures { λ r. ⌜ r ≡ nextOf given (keyAsks method state x supplied) ⌝ }
+{
+    let setup = state.setup;
+    let pkbx = setup.pkbx;
+    let nonce = supplied.nonce;
+    match method {
+        PairingMethod::JustWorks => unless(given.f4, ask_f4(pkbx, x, nonce, 0)),
+        PairingMethod::NumericComparison => unless(given.f4, ask_f4(pkbx, x, nonce, 0)),
+        PairingMethod::PassKeyEntry {
+            central: _central,
+            peripheral: _peripheral,
+        } => none(),
+        PairingMethod::OutOfBand => none(),
+    }
+}
+
+// WaitingNumericComparisonRandom: the number to compare, which Just Works has none of.
+fn comparison(state: State, code: u8, payload: &[u8], supplied: Supplied, given: Given) -> Question
+    ensures { λ r. ⌜ r ≡ nextOf given (commandAsks Phase.WaitingNumericComparisonRandom state code (now (payload .entry)) supplied) ⌝ }
+{
+    if code != 4 {
+        return none();
+    }
+    if payload.len() != 16 {
+        return none();
+    }
+    let method = state.method;
+    compared_number(method, state, octets::reversed16(payload), given)
+}
+
+fn compared_number(method: PairingMethod, state: State, na: [u8; 16], given: Given) -> Question
+    ensures { λ r. ⌜ r ≡ nextOf given (compareAsks method state na) ⌝ }
+{
+    let setup = state.setup;
+    let secrets = state.secrets;
+    let pkbx = setup.pkbx;
+    let pkax = secrets.pkax;
+    let nb = secrets.nb;
+    match method {
+        PairingMethod::JustWorks => none(),
+        PairingMethod::NumericComparison => unless(given.g2, ask_g2(pkax, pkbx, na, nb)),
+        PairingMethod::PassKeyEntry {
+            central: _central,
+            peripheral: _peripheral,
+        } => unless(given.g2, ask_g2(pkax, pkbx, na, nb)),
+        PairingMethod::OutOfBand => unless(given.g2, ask_g2(pkax, pkbx, na, nb)),
+    }
+}
+
+// WaitingPassKeyEntryConfirm: our confirm of the round.
+fn confirm(
+    state: State,
+    round: u8,
+    code: u8,
+    payload: &[u8],
+    supplied: Supplied,
+    given: Given,
+) -> Question
+    ensures { λ r. ⌜ r ≡ nextOf given (commandAsks (Phase.WaitingPassKeyEntryConfirm round) state code (now (payload .entry)) supplied) ⌝ }
+{
+    if code != 3 {
+        return none();
+    }
+    if payload.len() != 16 {
+        return none();
+    }
+    let secrets = state.secrets;
+    round_confirm(state, secrets.passkey, round, supplied, given)
+}
+
+fn round_confirm(
+    state: State,
+    passkey: u32,
+    round: u8,
+    supplied: Supplied,
+    given: Given,
+) -> Question
+    ensures { λ r. ⌜ r ≡ nextOf given (confirmAsks state passkey round supplied) ⌝ }
+{
+    let setup = state.setup;
+    let secrets = state.secrets;
+    let pkbx = setup.pkbx;
+    let pkax = secrets.pkax;
+    let nonce = supplied.nonce;
+    unless(
+        given.f4,
+        ask_f4(pkbx, pkax, nonce, rounds::z(passkey, round)),
+    )
+}
+
+// WaitingPassKeyEntryRandom: the peer's confirm of the round.
+fn random(
+    state: State,
+    round: u8,
+    code: u8,
+    payload: &[u8],
+    supplied: Supplied,
+    given: Given,
+) -> Question
+    ensures { λ r. ⌜ r ≡ nextOf given (commandAsks (Phase.WaitingPassKeyEntryRandom round) state code (now (payload .entry)) supplied) ⌝ }
+{
+    if code != 4 {
+        return none();
+    }
+    if payload.len() != 16 {
+        return none();
+    }
+    let setup = state.setup;
+    let secrets = state.secrets;
+    let pkbx = setup.pkbx;
+    let pkax = secrets.pkax;
+    let na = octets::reversed16(payload);
+    unless(
+        given.f4,
+        ask_f4(pkax, pkbx, na, rounds::z(secrets.passkey, round)),
+    )
+}
+
+// WaitingDHKeyEa: a check of a wrong length asks as much as a wrong check.
+fn check(state: State, code: u8, payload: &[u8], supplied: Supplied, given: Given) -> Question
+    ensures { λ r. ⌜ r ≡ nextOf given (commandAsks Phase.WaitingDHKeyEa state code (now (payload .entry)) supplied) ⌝ }
+{
+    if code != 13 {
+        return none();
+    }
+    if payload.len() != 16 {
+        return check_value(state, false, [0u8; 16], supplied, given);
+    }
+    check_value(state, true, octets::reversed16(payload), supplied, given)
+}
+
+// f5, then the peer's check, then ours where the peer's is right.
+fn check_value(
+    state: State,
+    whole: bool,
+    ea: [u8; 16],
+    supplied: Supplied,
+    given: Given,
+) -> Question
+    ensures { λ r. ⌜ r ≡ nextOf given (checkAsks state whole ea supplied) ⌝ }
+{
+    if given.f5 {
+        if given.ea {
+            if whole {
+                let right = supplied.ea;
+                if octets::equal16(ea, right) {
+                    return unless(given.eb, ask_eb(state, supplied));
+                }
+                return none();
+            }
+            return none();
+        }
+        return ask_ea(state, supplied);
+    }
+    ask_ltk(state)
+}
+
+// WaitingNumericComparisonResult: a held check is handled on the user's yes.
+fn compared(state: State, held: bool, came: Event, supplied: Supplied, given: Given) -> Question
+    ensures { λ r. ⌜ r ≡ nextOf given (comparisonAsks state held came supplied) ⌝ }
+{
+    match came {
+        Event::LinkEncryptedResult(_ok) => none(),
+        Event::PassKeyConfirm => {
+            if held {
+                let secrets = state.secrets;
+                let early = secrets.held;
+                return check_value(state, true, early, supplied, given);
+            }
+            none()
+        }
+        Event::PassKeyCancel => none(),
+        Event::PassKeyInput(_passkey) => none(),
+        Event::OobDataReceived => none(),
+    }
+}
+
+// WaitingPassKeyInput: a held confirm is handled as round 0's.
+fn typed(state: State, held: bool, came: Event, supplied: Supplied, given: Given) -> Question
+    ensures { λ r. ⌜ r ≡ nextOf given (typingAsks state held came supplied) ⌝ }
+{
+    match came {
+        Event::LinkEncryptedResult(_ok) => none(),
+        Event::PassKeyConfirm => none(),
+        Event::PassKeyCancel => none(),
+        Event::PassKeyInput(passkey) => {
+            if held {
+                return round_confirm(state, passkey, 0, supplied, given);
+            }
+            none()
+        }
+        Event::OobDataReceived => none(),
+    }
+}
+
+// WaitingOobData: the peer's confirm, where the peer's data is there.
+fn received(state: State, came: Event, values: OobData, given: Given) -> Question
+    ensures { λ r. ⌜ r ≡ nextOf given (receivedAsks state came values) ⌝ }
+{
+    match came {
+        Event::LinkEncryptedResult(_ok) => none(),
+        Event::PassKeyConfirm => none(),
+        Event::PassKeyCancel => none(),
+        Event::PassKeyInput(_passkey) => none(),
+        Event::OobDataReceived => peer_data(state, values, given),
+    }
+}
+
+fn peer_data(state: State, values: OobData, given: Given) -> Question
+    ensures { λ r. ⌜ r ≡ nextOf given (oobAsks state values) ⌝ }
+{
+    let secrets = state.secrets;
+    let pkax = secrets.pkax;
+    let random = values.random;
+    let confirm = values.confirm;
+    if octets::all_zero16(random) {
+        if octets::all_zero16(confirm) {
+            return none();
+        }
+        return unless(given.f4, ask_f4(pkax, pkax, random, 0));
+    }
+    unless(given.f4, ask_f4(pkax, pkax, random, 0))
+}
+
+// A question, unless it has its answer.
+fn unless(given: bool, question: Question) -> Question
+    ensures { λ r. ⌜ r ≡ cond given noQuestion question ⌝ }
+{
+    if given {
+        return none();
+    }
+    question
+}
+
+fn ask_ltk(state: State) -> Question
+    ensures { λ r. ⌜ r ≡ askLtk state ⌝ }
+{
+    let setup = state.setup;
+    let secrets = state.secrets;
+    let dhkey = secrets.dhkey;
+    let na = secrets.na;
+    let nb = secrets.nb;
+    let peer = setup.peer;
+    let local = setup.local;
+    let mut question = none();
+    question.u = dhkey;
+    question.n1 = na;
+    question.n2 = nb;
+    question.a1 = peer;
+    question.a2 = local;
+    of_kind(QuestionKind::F5, question)
+}
+
+fn ask_ea(state: State, supplied: Supplied) -> Question
+    ensures { λ r. ⌜ r ≡ askEa state supplied ⌝ }
+{
+    let setup = state.setup;
+    let secrets = state.secrets;
+    let features = state.features;
+    let key = supplied.mackey;
+    let na = secrets.na;
+    let nb = secrets.nb;
+    let rb = secrets.rb;
+    let iocap = features.io_cap();
+    let peer = setup.peer;
+    let local = setup.local;
+    ask_f6(QuestionKind::Ea, key, na, nb, rb, iocap, peer, local)
+}
+
+fn ask_eb(state: State, supplied: Supplied) -> Question
+    ensures { λ r. ⌜ r ≡ askEb state supplied ⌝ }
+{
+    let setup = state.setup;
+    let secrets = state.secrets;
+    let features = state.features;
+    let ours = request::local_features(setup, features);
+    let key = supplied.mackey;
+    let na = secrets.na;
+    let nb = secrets.nb;
+    let ra = secrets.ra;
+    let iocap = ours.io_cap();
+    let peer = setup.peer;
+    let local = setup.local;
+    ask_f6(QuestionKind::Eb, key, nb, na, ra, iocap, local, peer)
+}
+
+fn ask_dh(x: [u8; 32], y: [u8; 32]) -> Question
+    ensures { λ r. ⌜ r ≡ askDh x y ⌝ }
+{
+    let mut question = none();
+    question.u = x;
+    question.v = y;
+    of_kind(QuestionKind::DH, question)
+}
+
+fn ask_f4(u: [u8; 32], v: [u8; 32], x: [u8; 16], z: u8) -> Question
+    ensures { λ r. ⌜ r ≡ askF4 u v x z ⌝ }
+{
+    let mut question = none();
+    question.u = u;
+    question.v = v;
+    question.n1 = x;
+    question.z = z;
+    of_kind(QuestionKind::F4, question)
+}
+
+fn ask_g2(u: [u8; 32], v: [u8; 32], x: [u8; 16], y: [u8; 16]) -> Question
+    ensures { λ r. ⌜ r ≡ askG2 u v x y ⌝ }
+{
+    let mut question = none();
+    question.u = u;
+    question.v = v;
+    question.n1 = x;
+    question.n2 = y;
+    of_kind(QuestionKind::G2, question)
+}
+
+fn ask_f6(
+    kind: QuestionKind,
+    key: [u8; 16],
+    n1: [u8; 16],
+    n2: [u8; 16],
+    r: [u8; 16],
+    iocap: [u8; 3],
+    a1: Address,
+    a2: Address,
+) -> Question
+    ensures { λ q. ⌜ q ≡ askF6 kind key n1 n2 r iocap a1 a2 ⌝ }
+{
+    let mut question = none();
+    question.key = key;
+    question.n1 = n1;
+    question.n2 = n2;
+    question.r = r;
+    question.iocap = iocap;
+    question.a1 = a1;
+    question.a2 = a2;
+    of_kind(kind, question)
+}
+
+// A question's arguments under a kind.
+fn of_kind(kind: QuestionKind, question: Question) -> Question
+    ensures { λ r. ⌜ r ≡ kinded kind question ⌝ }
+{
+    let u = question.u;
+    let v = question.v;
+    let key = question.key;
+    let n1 = question.n1;
+    let n2 = question.n2;
+    let r = question.r;
+    let iocap = question.iocap;
+    let a1 = question.a1;
+    let a2 = question.a2;
+    Question {
+        kind,
+        u,
+        v,
+        key,
+        n1,
+        n2,
+        r,
+        z: question.z,
+        iocap,
+        a1,
+        a2,
+    }
+}
+
+fn none() -> Question
+    ensures { λ r. ⌜ r ≡ noQuestion ⌝ }
+{
+    let nowhere = Address {
+        kind: AddressKind::Public,
+        octets: [0u8; 6],
+    };
+    Question {
+        kind: QuestionKind::Nothing,
+        u: [0u8; 32],
+        v: [0u8; 32],
+        key: [0u8; 16],
+        n1: [0u8; 16],
+        n2: [0u8; 16],
+        r: [0u8; 16],
+        z: 0,
+        iocap: [0u8; 3],
+        a1: nowhere,
+        a2: nowhere,
+    }
+}
