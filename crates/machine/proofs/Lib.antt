@@ -7,3 +7,13 @@ pub mod Finished
 pub mod Reading
 pub mod Asking
 pub mod Samples
+pub mod Calls
+pub mod Walk
+pub mod Bound
+pub mod Obeys
+pub mod Runs
+pub mod Followed
+pub mod Exact
+pub mod Sent
+pub mod Success
+pub mod Witness

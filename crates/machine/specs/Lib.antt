@@ -16,3 +16,10 @@ pub mod Failures
 pub mod Reading
 pub mod Fresh
 pub mod Samples
+pub mod Run
+pub mod Passed
+pub mod Completed
+pub mod Edge
+pub mod Sent
+pub mod Tested
+pub mod Witnesses

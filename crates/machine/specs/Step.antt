@@ -106,7 +106,7 @@ unfoldable pub timedOut : State → State
 timedOut m = cond (finishedPhase (m .phase)) m (at m (P.Error F.Timeout))
 
 -- the link counts as encrypted in the two identity phases and in Success
-abbrev encrypted : Phase → Bool
+abbrev pub encrypted : Phase → Bool
 encrypted P.WaitingPairingRequest = false
 encrypted P.WaitingPublicKey = false
 encrypted P.WaitingNumericComparisonRandom = false

@@ -108,7 +108,8 @@ fn lost_bond(state: State) -> ConnectionEvent
     ConnectionEvent::Nothing
 }
 
-fn interactive_io(io: IoCapabilities) -> bool
+// Whether we can show or take anything.
+pub fn interactive_io(io: IoCapabilities) -> bool
     ensures { λ r. ⌜ r ≡ interactive io ⌝ }
 {
     match io {

@@ -1,0 +1,164 @@
+-- Sample runs: for each method a pairing that takes as many calls as that method can take, and some that meet the other premises.
+use Prim.Native.Nat.{ℕ, zero, suc, _-_}
+use mathlib.Core.List.{List, [], _∷_, _++_, map}
+use mathlib.Core.Bool.{Bool, true, false}
+use lib.ListN.{length, replicate}
+use Rattle.octets.specs.Octets.{zeros}
+use Rattle.address.specs.declared.AddressKind.the-variants.{Public}
+use Rattle.features.specs.declared.IoCapabilities.{IoCapabilities}
+use Rattle.features.specs.declared.IoCapabilities.the-variants.{DisplayOnly, DisplayYesNo, KeyboardOnly, NoInputNoOutput}
+use Rattle.features.specs.declared.UseOutOfBand.{UseOutOfBand}
+use Rattle.features.specs.declared.UseOutOfBand.the-variants.{NotPresent, Present}
+use Rattle.method.specs.declared.PairingMethod.{PairingMethod}
+use Rattle.method.specs.declared.PairingMethod.the-variants.{JustWorks, NumericComparison, PassKeyEntry, OutOfBand}
+use Rattle.method.specs.declared.PassKeyEntryAction.the-variants as W
+use Rattle.machine.specs.declared.Configured.the-variants as C
+use Rattle.machine.specs.declared.Event.{Event}
+use Rattle.machine.specs.declared.Event.the-variants as I
+use Rattle.machine.specs.declared.Phase.{Phase}
+use Rattle.machine.specs.declared.Phase.the-variants as P
+use Rattle.machine.specs.declared.Setup.{Setup}
+use Rattle.machine.specs.declared.Supplied.{Supplied}
+use Rattle.machine.specs.Outcome.{noBond, finishedPhase}
+use Rattle.machine.specs.Step.{Call, command, event}
+use Rattle.machine.specs.Fresh.{freshState}
+use Rattle.machine.specs.Run.{run, history, trace}
+
+-- a box, by its IO and OOB
+abbrev pub box : IoCapabilities → UseOutOfBand → Setup
+box io oob =
+    record {
+      io = io;
+      oob = oob;
+      bonding = true;
+      passkey = C.Nothing;
+      pkbx = zeros 32;
+      pkby = zeros 32;
+      irk = zeros 16;
+      local = record { kind = Public; octets = zeros 6 };
+      identity = record { kind = Public; octets = zeros 6 };
+      peer = record { kind = Public; octets = zeros 6 };
+      known = record { there = false; bond = noBond };
+    }
+
+-- a value as it travels, and as it is supplied
+abbrev pub sixteen : List ℕ
+sixteen = 0 ∷ 1 ∷ 2 ∷ 3 ∷ 4 ∷ 5 ∷ 6 ∷ 7 ∷ 8 ∷ 9 ∷ 10 ∷ 11 ∷ 12 ∷ 13 ∷ 14 ∷ 15 ∷ []
+
+abbrev pub turned : List ℕ
+turned = 15 ∷ 14 ∷ 13 ∷ 12 ∷ 11 ∷ 10 ∷ 9 ∷ 8 ∷ 7 ∷ 6 ∷ 5 ∷ 4 ∷ 3 ∷ 2 ∷ 1 ∷ 0 ∷ []
+
+-- what is supplied, with f4
+abbrev pub given : List ℕ → Supplied
+given f4 =
+    record { nonce = turned; passkey = 999999; dhvalid = true; dhkey = zeros 32; f4 = f4; g2 = 0; mackey = zeros 16; ltk = turned; ea = turned; eb = zeros 16 }
+
+abbrev pub tell : ℕ → List ℕ → Call
+tell k w = record { input = command (k ∷ w); supplied = given turned; room = 90 }
+
+abbrev pub raise : Event → Call
+raise e = record { input = event e (record { local = zeros 16; random = zeros 16; confirm = zeros 16 }); supplied = given turned; room = 90 }
+
+-- a request of a peer with a keyboard and a display that asks MITM, with its initiator key bits
+abbrev pub asking : ℕ → Call
+asking bits = tell 0x01 (4 ∷ 0 ∷ 0x0D ∷ 16 ∷ bits ∷ 2 ∷ [])
+
+abbrev pub key : Call
+key = tell 0x0C (zeros 64)
+
+-- n rounds, and what follows
+unfoldable pub rounds : ℕ → List Call → List Call
+rounds zero rest = rest
+rounds (suc n) rest = tell 0x03 sixteen ∷ tell 0x04 sixteen ∷ rounds n rest
+
+-- the link is encrypted, and the peer's identity comes
+abbrev pub identity : List Call
+identity = raise (I.LinkEncryptedResult true) ∷ tell 0x08 sixteen ∷ tell 0x09 (1 ∷ zeros 6) ∷ []
+
+-- the same behind the DHKey check
+abbrev pub ending : List Call
+ending = tell 0x0D sixteen ∷ identity
+
+-- passkey typed here, round 0's confirm behind it or before it: 47 calls
+unfoldable pub typedRun : List Call
+typedRun = asking 2 ∷ key ∷ raise (I.PassKeyInput 123456) ∷ rounds 20 ending
+
+unfoldable pub lateRun : List Call
+lateRun = asking 2 ∷ key ∷ tell 0x03 sixteen ∷ raise (I.PassKeyInput 123456) ∷ tell 0x04 sixteen ∷ rounds 19 ending
+
+-- passkey shown here: 46
+unfoldable pub shownRun : List Call
+shownRun = asking 2 ∷ key ∷ rounds 20 ending
+
+-- numeric comparison, the check behind the user's yes or before it: 8
+unfoldable pub comparedRun : List Call
+comparedRun = asking 2 ∷ key ∷ tell 0x04 sixteen ∷ raise I.PassKeyConfirm ∷ ending
+
+unfoldable pub heldRun : List Call
+heldRun = asking 2 ∷ key ∷ tell 0x04 sixteen ∷ tell 0x0D sixteen ∷ raise I.PassKeyConfirm ∷ identity
+
+-- out of band: 8
+unfoldable pub oobRun : List Call
+oobRun = asking 2 ∷ key ∷ raise I.OobDataReceived ∷ tell 0x04 sixteen ∷ ending
+
+-- Just Works: 7, and 5 where the peer's initiator bit is not set
+unfoldable pub worksRun : List Call
+worksRun = asking 2 ∷ key ∷ tell 0x04 sixteen ∷ ending
+
+unfoldable pub bareRun : List Call
+bareRun = asking 0 ∷ key ∷ tell 0x04 sixteen ∷ tell 0x0D sixteen ∷ raise (I.LinkEncryptedResult true) ∷ []
+
+-- a bonded link, no pairing: 1
+unfoldable pub bondedRun : List Call
+bondedRun = raise (I.LinkEncryptedResult true) ∷ []
+
+-- a random of round 0 with a wrong f4
+unfoldable pub wrongRun : List Call
+wrongRun = asking 2 ∷ key ∷ tell 0x03 sixteen ∷ record { input = command (0x04 ∷ sixteen); supplied = given sixteen; room = 90 } ∷ []
+
+-- three refused calls among those of a bonded link: an outbox too short, a passkey out of range, and one behind the end
+unfoldable pub refusedRun : List Call
+refusedRun =
+    record { input = command (0x01 ∷ []); supplied = given turned; room = 89 } ∷ raise (I.PassKeyInput 1000000) ∷ raise (I.LinkEncryptedResult true) ∷ key ∷ []
+
+-- a run of a box, its method, and how many calls it takes
+pub record Sample : Type 0 where
+  pub setup : Setup
+  pub calls : List Call
+  pub method : PairingMethod
+  pub takes : ℕ
+
+-- what comes of a sample: the method, how many calls were taken, after each call whether the machine is finished, and its last phase
+pub record Came : Type 0 where
+  pub method : PairingMethod
+  pub taken : ℕ
+  pub ends : List Bool
+  pub last : Phase
+
+abbrev pub made : Sample → Came
+made s =
+    let m = freshState (s .setup) in
+    record {
+      method = run m (s .calls) .method;
+      taken = length (history m (s .calls));
+      ends = map finishedPhase (trace m (s .calls));
+      last = run m (s .calls) .phase;
+    }
+
+-- every call is taken, and the last one finishes the machine
+abbrev pub said : Sample → Came
+said s = record { method = s .method; taken = s .takes; ends = replicate (s .takes - 1) false ++ (true ∷ []); last = P.Success }
+
+-- the first seven take as many calls as their method can
+unfoldable pub samples : List Sample
+samples =
+    record { setup = box KeyboardOnly NotPresent; calls = typedRun; method = PassKeyEntry W.Display W.Input; takes = 47 }
+    ∷ record { setup = box KeyboardOnly NotPresent; calls = lateRun; method = PassKeyEntry W.Display W.Input; takes = 47 }
+    ∷ record { setup = box DisplayOnly NotPresent; calls = shownRun; method = PassKeyEntry W.Input W.Display; takes = 46 }
+    ∷ record { setup = box DisplayYesNo NotPresent; calls = comparedRun; method = NumericComparison; takes = 8 }
+    ∷ record { setup = box DisplayYesNo NotPresent; calls = heldRun; method = NumericComparison; takes = 8 }
+    ∷ record { setup = box DisplayOnly Present; calls = oobRun; method = OutOfBand; takes = 8 }
+    ∷ record { setup = box NoInputNoOutput NotPresent; calls = worksRun; method = JustWorks; takes = 7 }
+    ∷ record { setup = box NoInputNoOutput NotPresent; calls = bareRun; method = JustWorks; takes = 5 }
+    ∷ record { setup = box NoInputNoOutput NotPresent; calls = bondedRun; method = JustWorks; takes = 1 }
+    ∷ []

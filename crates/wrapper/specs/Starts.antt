@@ -1,0 +1,78 @@
+-- How a pairing begins: awaiting a request, or asking for one with a Security Request (Part H 2.4.6, 3.6.7).
+use Prim.Native.Nat.{ℕ}
+use mathlib.Core.Path.{_≡_}
+use mathlib.Core.List.{List, []}
+use mathlib.Core.Bool.{Bool, true, false, cond}
+use lib.Dec.{ltb}
+use Rattle.octets.specs.Write.{laid, wrote}
+use Rattle.rounds.specs.Rounds.{inRange}
+use Rattle.features.specs.Bits.{ourAuthReq}
+use Rattle.method.specs.declared.SecurityLevel.{SecurityLevel}
+use Rattle.method.specs.declared.SecurityLevel.the-variants.{NoEncryption, Encrypted, EncryptedAuthenticated}
+use Rattle.frames.specs.Frames.{securityRequest}
+use Rattle.machine.specs.declared.Refusal.{Refusal}
+use Rattle.machine.specs.declared.Refusal.the-variants as R
+use Rattle.machine.specs.declared.Failure.the-variants as F
+use Rattle.machine.specs.declared.Phase.the-variants as P
+use Rattle.machine.specs.declared.Configured.{Configured}
+use Rattle.machine.specs.declared.Configured.the-variants as C
+use Rattle.machine.specs.declared.Setup.{Setup}
+use Rattle.machine.specs.declared.State.{State}
+use Rattle.machine.specs.Outcome.{at}
+use Rattle.machine.specs.Request.{interactive}
+use Rattle.machine.specs.Fresh.{freshState}
+use Rattle.responder.specs.Calls.{responderOf}
+use Rattle.wrapper.specs.declared.Start.{Start}
+use Rattle.wrapper.specs.declared.Start.the-variants as S
+use Rattle.wrapper.specs.declared.Begun.{Begun}
+
+-- what a start comes to
+pub record Beginning : Type 0 where
+  pub next : State
+  pub frames : List ℕ
+  pub answer : Start
+
+abbrev pub begunOf : Beginning → ℕ → Begun
+begunOf b n = record { responder = responderOf (b .next); sent = n; answer = b .answer }
+
+-- the contract of a start that is lent an outbox
+pub record Opened (b : Beginning) (r : Begun) (before after : List ℕ) : Type 0 where
+  pub begun : r ≡ begunOf b (wrote (b .frames) before)
+  pub out : after ≡ laid (b .frames) before
+
+-- a machine that was started
+abbrev pub startedOf : State → ℕ → Begun
+startedOf m n = record { responder = responderOf m; sent = n; answer = S.Started }
+
+-- a configured passkey is in range
+abbrev pub suits : Configured → Bool
+suits C.Nothing = true
+suits (C.Passkey p) = inRange p
+
+-- a fresh machine, with frames
+unfoldable pub started : Setup → List ℕ → Beginning
+started s frames = record { next = freshState s; frames = frames; answer = S.Started }
+
+-- a refused start: a machine in Error 16, and nothing written
+unfoldable pub startRefused : Setup → Refusal → Beginning
+startRefused s x = record { next = at (freshState s) (P.Error F.InvalidState); frames = []; answer = S.Refused x }
+
+-- a start that awaits a request: R3 for a configured passkey out of range
+unfoldable pub startOf : Setup → Beginning
+startOf s = cond (suits (s .passkey)) (started s []) (startRefused s R.PasskeyRange)
+
+abbrev pub authenticated : SecurityLevel → Bool
+authenticated NoEncryption = false
+authenticated Encrypted = false
+authenticated EncryptedAuthenticated = true
+
+-- MITM is asked when we can show or take anything; when the user did not start it and a bond is known, exactly when that bond is authenticated
+abbrev pub asksMitm : Setup → Bool → Bool
+asksMitm s true = interactive (s .io)
+asksMitm s false = cond (s .known .there) (authenticated (s .known .bond .level)) (interactive (s .io))
+
+-- a start with a Security Request: R2, then R3
+unfoldable pub initiateOf : Setup → Bool → ℕ → Beginning
+initiateOf s user room =
+    cond (ltb room 90) (startRefused s R.OutboxShort)
+    (cond (suits (s .passkey)) (started s (securityRequest (ourAuthReq (s .bonding) (asksMitm s user)))) (startRefused s R.PasskeyRange))

@@ -1,0 +1,205 @@
+// Around the responder: how a pairing begins, and what is to be known of it from outside.
+use address::Address;
+use features::IoCapabilities;
+use features::PairingFeatures;
+use features::UseOutOfBand;
+use machine::Configured;
+use machine::Failure;
+use machine::MaybeBond;
+use machine::Phase;
+use machine::Refusal;
+use machine::Secrets;
+use machine::Setup;
+use machine::State;
+use method::PairingMethod;
+use method::SecurityLevel;
+use responder::Responder;
+ghost use mathlib.Core.Path.{_≡_};
+ghost use lib.ListN.{length};
+ghost use Rattle.machine.specs.Step.{encrypted, securityLevel};
+ghost use Rattle.machine.specs.Fresh.{freshState};
+ghost use Rattle.wrapper.specs.Starts.{begunOf, startedOf, Opened, suits, startRefused, startOf, authenticated, asksMitm, initiateOf};
+
+pub enum Start {
+    Started,
+    Refused(Refusal),
+}
+
+pub struct Begun {
+    pub responder: Responder,
+    pub sent: usize,
+    pub answer: Start,
+}
+
+// A responder that awaits a request. A configured passkey out of range is refused.
+pub fn new_peripheral(setup: Setup) -> Begun
+    ensures { λ r. ⌜ r ≡ begunOf (startOf setup) 0 ⌝ }
+{
+    let configured = setup.passkey;
+    if suitable(configured) {
+        return running(fresh(setup), 0);
+    }
+    refused(setup, Refusal::PasskeyRange)
+}
+
+// A responder that asks for a request with a Security Request, by the user's wish or by its own (`user` says which).
+pub fn initiate_peripheral(setup: Setup, user: bool, out: &mut [u8]) -> Begun
+    ensures { λ r. ⌜ Opened (initiateOf setup user (length (now (out .entry)))) r (now (out .entry)) (now (out .exit)) ⌝ }
+{
+    if out.len() < 90 {
+        return refused(setup, Refusal::OutboxShort);
+    }
+    let configured = setup.passkey;
+    if suitable(configured) {
+        let sent = frames::security_request(
+            out,
+            features::auth_req(setup.bonding, asks_mitm(setup, user)),
+        );
+        return running(fresh(setup), sent);
+    }
+    refused(setup, Refusal::PasskeyRange)
+}
+
+// Whether the link counts as encrypted.
+pub fn is_encrypted(responder: Responder) -> bool
+    ensures { λ r. ⌜ r ≡ encrypted (responder .state .phase) ⌝ }
+{
+    let state = responder.state;
+    let phase = state.phase;
+    match phase {
+        Phase::WaitingPairingRequest => false,
+        Phase::WaitingPublicKey => false,
+        Phase::WaitingNumericComparisonRandom => false,
+        Phase::WaitingNumericComparisonResult(_held) => false,
+        Phase::WaitingPassKeyInput(_held) => false,
+        Phase::WaitingPassKeyEntryConfirm(_round) => false,
+        Phase::WaitingPassKeyEntryRandom(_round) => false,
+        Phase::WaitingOobData => false,
+        Phase::WaitingOobRandom => false,
+        Phase::WaitingDHKeyEa => false,
+        Phase::WaitingLinkEncrypted => false,
+        Phase::WaitingIdentitityInformation => true,
+        Phase::WaitingIdentitityAddressInformation => true,
+        Phase::Success => true,
+        Phase::Error(_failure) => false,
+    }
+}
+
+// The bond's level where the link is encrypted and there is a bond.
+pub fn security_level(responder: Responder) -> SecurityLevel
+    ensures { λ r. ⌜ r ≡ securityLevel (responder .state) ⌝ }
+{
+    let state = responder.state;
+    let held = state.bond;
+    let bond = held.bond;
+    let level = bond.level;
+    if is_encrypted(responder) {
+        if held.there {
+            return level;
+        }
+        return SecurityLevel::NoEncryption;
+    }
+    SecurityLevel::NoEncryption
+}
+
+// The bond, if there is one.
+pub fn bond_information(responder: Responder) -> MaybeBond
+    ensures { λ r. ⌜ r ≡ responder .state .bond ⌝ }
+{
+    let state = responder.state;
+    let bond = state.bond;
+    bond
+}
+
+// The peer's address: that of the connection, and its identity address once that has come.
+pub fn peer_address(responder: Responder) -> Address
+    ensures { λ r. ⌜ r ≡ responder .state .peer ⌝ }
+{
+    let state = responder.state;
+    let peer = state.peer;
+    peer
+}
+
+// A fresh machine: no peer features, no key distribution bits, method JustWorks, key size 16.
+fn fresh(setup: Setup) -> State
+    ensures { λ r. ⌜ r ≡ freshState setup ⌝ }
+{
+    let peer = setup.peer;
+    State {
+        phase: Phase::WaitingPairingRequest,
+        setup,
+        features: PairingFeatures {
+            io: IoCapabilities::NoInputNoOutput,
+            oob: UseOutOfBand::NotPresent,
+            authreq: 0,
+            keysize: 16,
+            initiator: 0,
+            responder: 0,
+        },
+        method: PairingMethod::JustWorks,
+        secrets: Secrets::fresh([0u8; 32], [0u8; 32]),
+        bond: MaybeBond {
+            there: false,
+            bond: machine::no_bond(),
+        },
+        peer,
+    }
+}
+
+fn running(state: State, sent: usize) -> Begun
+    ensures { λ r. ⌜ r ≡ startedOf state sent ⌝ }
+{
+    Begun {
+        responder: Responder { state },
+        sent,
+        answer: Start::Started,
+    }
+}
+
+// A refused start gives a machine in Error that takes nothing.
+fn refused(setup: Setup, refusal: Refusal) -> Begun
+    ensures { λ r. ⌜ r ≡ begunOf (startRefused setup refusal) 0 ⌝ }
+{
+    let state = fresh(setup);
+    let ended = state.at(Phase::Error(Failure::InvalidState));
+    Begun {
+        responder: Responder { state: ended },
+        sent: 0,
+        answer: Start::Refused(refusal),
+    }
+}
+
+fn suitable(configured: Configured) -> bool
+    ensures { λ r. ⌜ r ≡ suits configured ⌝ }
+{
+    match configured {
+        Configured::Nothing => true,
+        Configured::Passkey(passkey) => rounds::in_range(passkey),
+    }
+}
+
+fn asks_mitm(setup: Setup, user: bool) -> bool
+    ensures { λ r. ⌜ r ≡ asksMitm setup user ⌝ }
+{
+    let io = setup.io;
+    let known = setup.known;
+    let bond = known.bond;
+    let level = bond.level;
+    if user {
+        return request::interactive_io(io);
+    }
+    if known.there {
+        return is_authenticated(level);
+    }
+    request::interactive_io(io)
+}
+
+fn is_authenticated(level: SecurityLevel) -> bool
+    ensures { λ r. ⌜ r ≡ authenticated level ⌝ }
+{
+    match level {
+        SecurityLevel::NoEncryption => false,
+        SecurityLevel::Encrypted => false,
+        SecurityLevel::EncryptedAuthenticated => true,
+    }
+}
