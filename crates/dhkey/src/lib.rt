@@ -19,10 +19,10 @@ pub fn check(state: State, code: u8, payload: &[u8], supplied: Supplied, out: &m
     ensures { λ r. ⌜ Met (checkOf state code (now (payload .entry)) supplied) r (now (out .entry)) (now (out .exit)) ⌝ }
 {
     if code != 13 {
-        return state.failed(Failure::InvalidState);
+        return outcome::failed(state, Failure::InvalidState);
     }
     if payload.len() != 16 {
-        return state.failed(Failure::DHKeyCheckFailed);
+        return outcome::failed(state, Failure::DHKeyCheckFailed);
     }
     check_value(state, octets::reversed16(payload), supplied, out)
 }
@@ -37,7 +37,7 @@ pub fn check_value(state: State, ea: [u8; 16], supplied: Supplied, out: &mut [u8
         let ltk = supplied.ltk;
         let sent = frames::dhkey_check(out, eb);
         let bond = new_bond(state, ltk);
-        let mut next = state.at(Phase::WaitingLinkEncrypted);
+        let mut next = states::at(state, Phase::WaitingLinkEncrypted);
         let kept = MaybeBond { there: true, bond };
         next.bond = kept;
         return Step {
@@ -52,7 +52,7 @@ pub fn check_value(state: State, ea: [u8; 16], supplied: Supplied, out: &mut [u8
             answer: Answer::Taken,
         };
     }
-    state.failed(Failure::DHKeyCheckFailed)
+    outcome::failed(state, Failure::DHKeyCheckFailed)
 }
 
 // The bond of this pairing: link key, the method's level, the peer's address, no IRK yet.

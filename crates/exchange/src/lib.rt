@@ -27,18 +27,18 @@ pub fn public_key(
     ensures { λ r. ⌜ Met (keyOf state code (now (payload .entry)) supplied) r (now (out .entry)) (now (out .exit)) ⌝ }
 {
     if code != 12 {
-        return state.failed(Failure::InvalidState);
+        return outcome::failed(state, Failure::InvalidState);
     }
     if payload.len() != 64 {
-        return state.failed(Failure::InvalidParameters);
+        return outcome::failed(state, Failure::InvalidParameters);
     }
     if supplied.dhvalid {
         let dhkey = supplied.dhkey;
-        let secrets = Secrets::fresh(peer_x(payload), dhkey);
+        let secrets = states::fresh_secrets(peer_x(payload), dhkey);
         let method = state.method;
         return begin(method, state, secrets, supplied, out);
     }
-    state.failed(Failure::DHKeyCheckFailed)
+    outcome::failed(state, Failure::DHKeyCheckFailed)
 }
 
 // The x coordinate of a public key of 64 octets, and the y coordinate; zeros where there are fewer, or other, octets.
@@ -110,7 +110,8 @@ fn compare(state: State, secrets: Secrets, supplied: Supplied, out: &mut [u8]) -
     let sent = frames::public_key_confirm(out, x, y, f4);
     let mut drawn = secrets;
     drawn.nb = nb;
-    state.goes(
+    outcome::goes(
+        state,
         Phase::WaitingNumericComparisonRandom,
         drawn,
         sent,
@@ -127,7 +128,7 @@ fn show(configured: Configured, state: State, secrets: Secrets, drawn: u32, out:
             if rounds::in_range(drawn) {
                 return show_passkey(state, secrets, drawn, out);
             }
-            state.refused(Refusal::PasskeyRange)
+            outcome::refused(state, Refusal::PasskeyRange)
         }
         Configured::Passkey(passkey) => show_passkey(state, secrets, passkey, out),
     }
@@ -136,7 +137,7 @@ fn show(configured: Configured, state: State, secrets: Secrets, drawn: u32, out:
 fn show_passkey(state: State, secrets: Secrets, passkey: u32, out: &mut [u8]) -> Step
     ensures { λ r. ⌜ Met (showing state secrets passkey) r (now (out .entry)) (now (out .exit)) ⌝ }
 {
-    let keyed = secrets.with_passkey(passkey);
+    let keyed = states::with_passkey(secrets, passkey);
     send_key(
         state,
         Phase::WaitingPassKeyEntryConfirm(0),
@@ -160,5 +161,5 @@ fn send_key(
     let x = setup.pkbx;
     let y = setup.pkby;
     let sent = frames::public_key(out, x, y);
-    state.goes(phase, secrets, sent, event)
+    outcome::goes(state, phase, secrets, sent, event)
 }

@@ -30,10 +30,10 @@ pub fn bonded_link_event(state: State, event: Event, out: &mut [u8]) -> Step
 {
     match event {
         Event::LinkEncryptedResult(ok) => bonded_link(state, ok, out),
-        Event::PassKeyConfirm => state.failed(Failure::InvalidState),
-        Event::PassKeyCancel => state.failed(Failure::InvalidState),
-        Event::PassKeyInput(_passkey) => state.failed(Failure::InvalidState),
-        Event::OobDataReceived => state.failed(Failure::InvalidState),
+        Event::PassKeyConfirm => outcome::failed(state, Failure::InvalidState),
+        Event::PassKeyCancel => outcome::failed(state, Failure::InvalidState),
+        Event::PassKeyInput(_passkey) => outcome::failed(state, Failure::InvalidState),
+        Event::OobDataReceived => outcome::failed(state, Failure::InvalidState),
     }
 }
 
@@ -43,10 +43,10 @@ pub fn encrypted_event(state: State, event: Event, out: &mut [u8]) -> Step
 {
     match event {
         Event::LinkEncryptedResult(ok) => encrypted(state, ok, out),
-        Event::PassKeyConfirm => state.failed(Failure::InvalidState),
-        Event::PassKeyCancel => state.failed(Failure::InvalidState),
-        Event::PassKeyInput(_passkey) => state.failed(Failure::InvalidState),
-        Event::OobDataReceived => state.failed(Failure::InvalidState),
+        Event::PassKeyConfirm => outcome::failed(state, Failure::InvalidState),
+        Event::PassKeyCancel => outcome::failed(state, Failure::InvalidState),
+        Event::PassKeyInput(_passkey) => outcome::failed(state, Failure::InvalidState),
+        Event::OobDataReceived => outcome::failed(state, Failure::InvalidState),
     }
 }
 
@@ -55,17 +55,18 @@ pub fn identity_information(state: State, code: u8, payload: &[u8]) -> Step
     ensures { λ r. ⌜ Quiet (identityInformationOf state code (now (payload .entry))) r ⌝ }
 {
     if code != 8 {
-        return state.failed(Failure::InvalidState);
+        return outcome::failed(state, Failure::InvalidState);
     }
     if payload.len() != 16 {
-        return state.failed(Failure::InvalidValue);
+        return outcome::failed(state, Failure::InvalidValue);
     }
     let bond = state.bond;
     let secrets = state.secrets;
     let mut kept = state;
     let with_irk = bond_with_irk(bond, octets::reversed16(payload));
     kept.bond = with_irk;
-    kept.goes(
+    outcome::goes(
+        kept,
         Phase::WaitingIdentitityAddressInformation,
         secrets,
         0,
@@ -78,7 +79,7 @@ pub fn identity_address(state: State, code: u8, payload: &[u8]) -> Step
     ensures { λ r. ⌜ Quiet (identityAddressOf state code (now (payload .entry))) r ⌝ }
 {
     if code != 9 {
-        return state.failed(Failure::InvalidState);
+        return outcome::failed(state, Failure::InvalidState);
     }
     let received = address::decode(payload);
     let identity = received.address;
@@ -88,9 +89,9 @@ pub fn identity_address(state: State, code: u8, payload: &[u8]) -> Step
         let with_address = bond_with_address(bond, identity);
         known.bond = with_address;
         known.peer = identity;
-        return known.succeeded(0);
+        return outcome::succeeded(known, 0);
     }
-    state.failed(Failure::InvalidValue)
+    outcome::failed(state, Failure::InvalidValue)
 }
 
 fn bonded_link(state: State, ok: bool, out: &mut [u8]) -> Step
@@ -103,7 +104,7 @@ fn bonded_link(state: State, ok: bool, out: &mut [u8]) -> Step
         bonded.bond = known;
         return distribute(bonded, out);
     }
-    state.failed(Failure::KeyRejected)
+    outcome::failed(state, Failure::KeyRejected)
 }
 
 fn encrypted(state: State, ok: bool, out: &mut [u8]) -> Step
@@ -112,7 +113,7 @@ fn encrypted(state: State, ok: bool, out: &mut [u8]) -> Step
     if ok {
         return distribute(state, out);
     }
-    state.failed(Failure::KeyRejected)
+    outcome::failed(state, Failure::KeyRejected)
 }
 
 // Our identity keys go first; the peer's are waited for where it said that it sends them.
@@ -123,14 +124,15 @@ fn distribute(state: State, out: &mut [u8]) -> Step
     let secrets = state.secrets;
     let sent = send_identity(state, out);
     if features::identity_key(features.initiator) {
-        return state.goes(
+        return outcome::goes(
+            state,
             Phase::WaitingIdentitityInformation,
             secrets,
             sent,
             ConnectionEvent::Nothing,
         );
     }
-    state.succeeded(sent)
+    outcome::succeeded(state, sent)
 }
 
 // Our IRK and identity address, where our responder identity bit is set.

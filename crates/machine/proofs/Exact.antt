@@ -33,6 +33,7 @@ use Rattle.machine.specs.Run.{after, run, isTaken, keep, history}
 use Rattle.machine.specs.Passed.{Command, Request, Key, Typed, Matching, Rounds, none, round, Passed, shown, late, number, isPasskey, Reached, typed}
 use Rattle.machine.specs.Edge.{Edge, exchanged, isComparison}
 use Rattle.machine.specs.Tested.{tested, upFrom}
+use Rattle.machine.specs.Demand.{Enters}
 use Rattle.machine.proofs.Calls.{clash}
 use Rattle.machine.proofs.Walk.{edge}
 use Rattle.machine.proofs.Bound.{rank, left, lowBy, low-step, bound}
@@ -173,23 +174,19 @@ module _ (s : Setup) (cs : List Call) where
       sym (tested-taken cs (freshState s)) ∙ stood d .follows .tests ∙ append-nil _ ∙ ap (λ p. map (zOf p) (upFrom 20 0)) (sym (passkey-is d))
 
 module _ (s : Setup) (cs : List Call) (c : Call) where
-  -- the call c, behind the calls cs, is the one by which the machine first comes to stand there
-  abbrev pub Enters : Type 0
-  Enters = ¬ (Reached (run (freshState s) cs)) × Reached (run (freshState s) (cs ++ (c ∷ [])))
-
-  pub first : Enters ↔ ((isTaken (step (run (freshState s) cs) c .answer) ≡ true) × Passed s (history (freshState s) (cs ++ (c ∷ []))))
+  pub first : Enters s cs c ↔ ((isTaken (step (run (freshState s) cs) c .answer) ≡ true) × Passed s (history (freshState s) (cs ++ (c ∷ []))))
   unfolding run history lowBy
   first = (λ e. (there e (step m c .answer) (low-step m c), exact s (cs ++ (c ∷ [])) .0 (e .1)), back)
     where
       m : State
       m = run (freshState s) cs
 
-      there : Enters → (a : Answer) → lowBy m a (after m c) (step m c .frames) → isTaken a ≡ true
+      there : Enters s cs c → (a : Answer) → lowBy m a (after m c) (step m c .frames) → isTaken a ≡ true
       there e A.Taken l = refl
       there e (A.Failed f) l = refl
       there e (A.Refused r) l = absurd (e .0 (subst Reached (run-append cs (c ∷ []) (freshState s) ∙ l .0) (e .1)))
 
-      back : (isTaken (step m c .answer) ≡ true) × Passed s (history (freshState s) (cs ++ (c ∷ []))) → Enters
+      back : (isTaken (step m c .answer) ≡ true) × Passed s (history (freshState s) (cs ++ (c ∷ []))) → Enters s cs c
       back p =
           let r : Reached (run (freshState s) (cs ++ (c ∷ []))) = exact s (cs ++ (c ∷ [])) .1 (p .1) in (
             λ q.

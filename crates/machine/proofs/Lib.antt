@@ -1,5 +1,4 @@
 pub mod Outcome
-pub mod Unique
 pub mod Ends
 pub mod Refusals
 pub mod Failures
@@ -16,4 +15,6 @@ pub mod Followed
 pub mod Exact
 pub mod Sent
 pub mod Success
+pub mod Room
+pub mod Demand
 pub mod Witness

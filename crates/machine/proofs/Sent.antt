@@ -36,6 +36,7 @@ use Rattle.machine.specs.Passed.{Command, isPasskey}
 use Rattle.machine.specs.Edge.{Edge, isComparison}
 use Rattle.machine.specs.Sent.{NoRandom, none, one, two, Discloses, hidden, Sends, passkey, comparison, outOfBand}
 use Rattle.machine.specs.Sent.{inRound as disclosed}
+use Rattle.machine.specs.Demand.{AtMostOne}
 use Rattle.machine.proofs.Calls.{clash}
 use Rattle.machine.proofs.Walk.{edge}
 use Rattle.machine.proofs.Bound.{rank, left, lowBy, low-step, left-after, keeps}
@@ -259,8 +260,6 @@ silent r (c ∷ cs) m h = go (inRound r (m .phase)) refl (silent r cs (after m c
     go false e k = k
 
 -- what a run sends in round r is nothing, or one nonce
-abbrev pub AtMostOne : List ℕ → Type 0
-AtMostOne f = (f ≡ []) ⊎ ((nonce : List ℕ) × (f ≡ pairingRandom nonce))
 
 alone : (f rest nonce : List ℕ) → rest ≡ [] → (f ≡ []) ⊎ (f ≡ pairingRandom nonce) → AtMostOne (f ++ rest)
 alone f rest nonce e (inl h) = inl (rw (h, e))

@@ -3,7 +3,7 @@ use Prim.Native.Nat.{ℕ, _+_, _≤_}
 use mathlib.Core.Path.{_≡_, refl, sym, ap, subst, _∙_}
 use mathlib.Core.List.{List, [], _∷_}
 use mathlib.Core.Bool.{Bool, true, false, cond, _&&_}
-use mathlib.Core.Logic.{_⊎_, inl, inr}
+use mathlib.Core.Logic.{_⊎_, inl, inr, _↔_}
 use lib.Dec.{ltb}
 use Rattle.octets.specs.Octets.{flip}
 use Rattle.address.specs.Identity.{decodeOf as addressOf}
@@ -20,17 +20,19 @@ use Rattle.machine.specs.declared.State.{State}
 use Rattle.machine.specs.Outcome.{Outcome, at, to, bonded, refused, failing, goes, succeeds, storing, wantsBonding, noAction, finishedPhase}
 use Rattle.machine.specs.Secrets.{setNa, setHeld}
 use Rattle.machine.specs.Request.{requested}
+use Rattle.machine.specs.Check.{checked as right}
 use Rattle.machine.specs.Passkey.{waits}
-use Rattle.machine.specs.Keys.{withAddress}
+use Rattle.machine.specs.Keys.{withIrk, withAddress}
 use Rattle.machine.specs.Step.{Call, step}
 use Rattle.machine.specs.Fresh.{freshState}
 use Rattle.machine.specs.Run.{after, run, isTaken, keep, history}
 use Rattle.machine.specs.Passed.{Command}
-use Rattle.machine.specs.Completed.{Completes, Informs, Encrypted, Checks, Enables, Identified, identified, Linked, plain, keyed, Ends, later, Completed, paired}
+use Rattle.machine.specs.Completed.{Completes, Informs, Encrypted, Checks, Enables, Identified, identified, Linked, plain, keyed, Checked, checked, Ends, arrived, later, Completed, paired}
 use Rattle.machine.specs.Edge.{Edge}
 use Rattle.machine.proofs.Calls.{clash}
 use Rattle.machine.proofs.Walk.{edge}
 use Rattle.machine.proofs.Obeys.{obeys}
+use Rattle.machine.proofs.Runs.{Roomy, roomy, replay}
 
 -- One call
 
@@ -193,7 +195,7 @@ Toward m (P.WaitingPassKeyEntryConfirm r) h = Ends (m .features) h
 Toward m (P.WaitingPassKeyEntryRandom r) h = Ends (m .features) h
 Toward m P.WaitingOobData h = Ends (m .features) h
 Toward m P.WaitingOobRandom h = Ends (m .features) h
-Toward m P.WaitingDHKeyEa h = Ends (m .features) h
+Toward m P.WaitingDHKeyEa h = Checked (m .features) h
 Toward m P.WaitingLinkEncrypted h = Linked (m .features) h
 Toward m P.WaitingIdentitityInformation h = Identified h
 Toward m P.WaitingIdentitityAddressInformation h = (w : List ℕ) (c : Call) → Command 0x08 16 w c → Identified (c ∷ h)
@@ -206,7 +208,7 @@ toward-after m s r h = go (ltb r 19)
   where
     go : (b : Bool) → Toward (to m (waits (cond b (Round (r + 1)) DHKeyCheck)) s) (waits (cond b (Round (r + 1)) DHKeyCheck)) h → Ends (m .features) h
     go true t = t
-    go false t = t
+    go false t = arrived t
 
 module _ (cs : List Call) (ih : (m : State) → run m cs .phase ≡ P.Success → Toward m (m .phase) (history m cs)) where
   by-edge : {m : State} {c : Call} {o : Outcome} → Edge m c o → run (o .next) cs .phase ≡ P.Success
@@ -221,10 +223,10 @@ module _ (cs : List Call) (ih : (m : State) → run m cs .phase ≡ P.Success �
   by-edge (Edge.keyShown e x k s) r = rw e (later (ih _ r))
   by-edge (Edge.keyTyped e x k) r = rw e (later (ih _ r))
   by-edge (Edge.keyCompared e x k) r = rw e (later (ih _ r))
-  by-edge (Edge.worksRandom e x k) r = rw e (later (ih _ r))
+  by-edge (Edge.worksRandom e x k) r = rw e (later (arrived (ih _ r)))
   by-edge (Edge.comparedRandom e x k) r = rw e (later (ih _ r))
   by-edge {m} {c} (Edge.heldCheck {w} e k) r = rw e (ih (to m (P.WaitingNumericComparisonResult true) (setHeld (m .secrets) (flip w))) r w c k refl)
-  by-edge (Edge.yes e i) r = rw e (later (ih _ r))
+  by-edge (Edge.yes e i) r = rw e (later (arrived (ih _ r)))
   by-edge (Edge.yesChecked e i s) r = rw e λ w d k g. Ends.held k i (g ∙ s) (ih _ r)
   by-edge (Edge.heldConfirm e k) r = rw e (later (ih _ r))
   by-edge (Edge.typed e t) r = rw e (later (ih _ r))
@@ -232,8 +234,8 @@ module _ (cs : List Call) (ih : (m : State) → run m cs .phase ≡ P.Success �
   by-edge (Edge.confirm e k) r = rw e (later (ih _ r))
   by-edge {m} (Edge.random {r = j} {w} e k) r = rw e (later (toward-after m (setNa (m .secrets) (flip w)) j _ (ih _ r)))
   by-edge (Edge.oobData o e i a) r = rw e (later (ih _ r))
-  by-edge (Edge.oobRandom e k) r = rw e (later (ih _ r))
-  by-edge (Edge.check e k s) r = rw e (Ends.arrived k s (ih _ r))
+  by-edge (Edge.oobRandom e k) r = rw e (later (arrived (ih _ r)))
+  by-edge (Edge.check e k s) r = rw e (checked k s (ih _ r))
   by-edge (Edge.linkKeys e i b) r = rw e (keyed b i (ih _ r))
   by-edge (Edge.linkDone e i b) r = rw e (rw (ih _ r) (plain b i))
   by-edge {c} (Edge.irk {w} e k) r = rw e (ih _ r w c k)
@@ -249,3 +251,30 @@ forward (c ∷ cs) m r = by-edge cs (forward cs) (edge m c) r
 pub success : (s : Setup) (cs : List Call) → run (freshState s) cs .phase ≡ P.Success → Completed s (history (freshState s) cs)
 unfolding Toward
 success s cs r = forward cs (freshState s) r refl
+
+-- and back: each of these, with room, is followed to Success
+identified-on : (m : State) {h : List Call} → m .phase ≡ P.WaitingIdentitityInformation → Identified h → Roomy h → run m h .phase ≡ P.Success
+unfolding run Roomy goes succeeds
+identified-on m e (identified {w} {v} {i} {a} k g) ρ =
+    let m₂ : State = at (bonded m (withIrk (m .bond) (flip w))) P.WaitingIdentitityAddressInformation in
+    ap (λ o. run (o .next) (a ∷ []) .phase) (obeys {m = m} {c = i} (Edge.irk e k) refl (ρ .0)) ∙ ap (λ o. o .next .phase) (obeys {m = m₂} {c = a} (Edge.address refl g) refl (ρ .1 .0))
+
+linked-on : (m : State) {h : List Call} → m .phase ≡ P.WaitingLinkEncrypted → Linked (m .features) h → Roomy h → run m h .phase ≡ P.Success
+unfolding run Roomy goes succeeds
+linked-on m e (plain b i) ρ = ap (λ o. o .next .phase) (obeys (Edge.linkDone e i b) refl (ρ .0))
+linked-on m e (keyed {h} b i d) ρ =
+    ap (λ o. run (o .next) h .phase) (obeys (Edge.linkKeys e i b) refl (ρ .0)) ∙ identified-on (at m P.WaitingIdentitityInformation) refl d (ρ .1)
+
+checked-on : (m : State) {h : List Call} → m .phase ≡ P.WaitingDHKeyEa → Checked (m .features) h → Roomy h → run m h .phase ≡ P.Success
+unfolding run Roomy
+checked-on m e (checked {c} {h} k s l) ρ =
+    ap (λ o. run (o .next) h .phase) (obeys (Edge.check e k s) refl (ρ .0)) ∙ linked-on (right m (c .supplied) .next) refl l (ρ .1)
+
+-- a machine that waits for the DHKey check comes to Success exactly when what it takes is a right check, the encrypted link and, where
+-- the peer's initiator bit is set, its identity
+pub from-check : (m : State) (cs : List Call) → m .phase ≡ P.WaitingDHKeyEa → (run m cs .phase ≡ P.Success) ↔ Checked (m .features) (history m cs)
+unfolding Toward
+from-check m cs e = (
+  λ r. subst (λ p. Toward m p (history m cs)) e (forward cs m r),
+  λ d. ap (λ x. x .phase) (sym (replay cs m)) ∙ checked-on m e d (roomy cs m),
+)

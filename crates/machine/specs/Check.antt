@@ -22,19 +22,21 @@ use Rattle.machine.specs.Outcome.{Outcome, at, bonded, need, expect}
 abbrev pub newBond : State → List ℕ → Bond
 newBond m ltk = record { ltk = ltk; level = levelOf (m .method); address = m .peer; irk = zeros 16 }
 
--- a check of sixteen octets against f6(MacKey, Na, Nb, rb, peer IOcap, peer address, our address); we answer with
--- f6(MacKey, Nb, Na, ra, our IOcap, our address, peer address) and enable encryption
-abbrev pub checking : State → List ℕ → Supplied → Outcome
-checking m ea a =
-    need m (same ea (a .ea)) F.DHKeyCheckFailed
-    (record {
+-- a right check: we answer with f6(MacKey, Nb, Na, ra, our IOcap, our address, peer address), and enable encryption with the link key
+abbrev pub checked : State → Supplied → Outcome
+checked m a =
+    record {
       next = at (bonded m (record { there = true; bond = newBond m (a .ltk) })) P.WaitingLinkEncrypted;
       frames = dhkeyCheck (a .eb);
       first = E.Nothing;
       second = E.Nothing;
       action = record { kind = K.EnableEncryption; bond = newBond m (a .ltk) };
       answer = A.Taken;
-    })
+    }
+
+-- a check of sixteen octets against f6(MacKey, Na, Nb, rb, peer IOcap, peer address, our address)
+abbrev pub checking : State → List ℕ → Supplied → Outcome
+checking m ea a = need m (same ea (a .ea)) F.DHKeyCheckFailed (checked m a)
 
 -- a command in WaitingDHKeyEa; any wrong length fails as a wrong check does
 abbrev pub checkOf : State → ℕ → List ℕ → Supplied → Outcome

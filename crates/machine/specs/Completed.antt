@@ -66,9 +66,13 @@ pub data Linked (f : PairingFeatures) : List Call → Type 0 where
   plain : {e : Call} → identityBit (f .initiator) ≡ false → Raised (I.LinkEncryptedResult true) e → Linked f (e ∷ [])
   keyed : {e : Call} {h : List Call} → identityBit (f .initiator) ≡ true → Raised (I.LinkEncryptedResult true) e → Identified h → Linked f (e ∷ h)
 
--- the end: a DHKey check equal to the f6 supplied with it, or held and equal to the f6 supplied with the user's yes; then the link
+-- a DHKey check equal to the f6 supplied with it; then the link
+pub data Checked (f : PairingFeatures) : List Call → Type 0 where
+  checked : {w : List ℕ} {c : Call} {h : List Call} → Command 0x0D 16 w c → flip w ≡ c .supplied .ea → Linked f h → Checked f (c ∷ h)
+
+-- the end: such a check, or one that was held and equals the f6 supplied with the user's yes
 pub data Ends (f : PairingFeatures) : List Call → Type 0 where
-  arrived : {w : List ℕ} {c : Call} {h : List Call} → Command 0x0D 16 w c → flip w ≡ c .supplied .ea → Linked f h → Ends f (c ∷ h)
+  arrived : {h : List Call} → Checked f h → Ends f h
   held : {w : List ℕ} {c d : Call} {h : List Call} → Command 0x0D 16 w c → Raised I.PassKeyConfirm d → flip w ≡ d .supplied .ea → Linked f h → Ends f (c ∷ d ∷ h)
   later : {c : Call} {h : List Call} → Ends f h → Ends f (c ∷ h)
 

@@ -31,25 +31,13 @@ use Rattle.machine.specs.Outcome.{Outcome, at, to, bonded, refused, fail
 use Rattle.machine.specs.Secrets.{fresh, setNa, setNonces, setOob, setHeld, setPasskey}
 use Rattle.machine.specs.Request.{localFeatures, lost, requested}
 use Rattle.machine.specs.Exchange.{ourKey, comparing, showing}
-use Rattle.machine.specs.Check.{newBond}
+use Rattle.machine.specs.Check.{checked}
 use Rattle.machine.specs.Passkey.{confirming, waits}
 use Rattle.machine.specs.Oob.{agrees}
 use Rattle.machine.specs.Keys.{ourIdentity, withIrk, addressed}
 use Rattle.machine.specs.Step.{Call, event}
 use Rattle.machine.specs.Passed.{Command, Raised, Request, Key, Shows, Typed, Matching}
 use Rattle.machine.specs.Completed.{Identity}
-
--- the check of this call is right: the link is to be encrypted with the link key that is supplied with it
-abbrev pub checked : State → Supplied → Outcome
-checked m a =
-    record {
-      next = at (bonded m (record { there = true; bond = newBond m (a .ltk) })) P.WaitingLinkEncrypted;
-      frames = dhkeyCheck (a .eb);
-      first = E.Nothing;
-      second = E.Nothing;
-      action = record { kind = K.EnableEncryption; bond = newBond m (a .ltk) };
-      answer = A.Taken;
-    }
 
 -- an acceptable request's response
 abbrev pub responding : State → PairingFeatures → Outcome

@@ -22,4 +22,6 @@ pub mod Completed
 pub mod Edge
 pub mod Sent
 pub mod Tested
+pub mod Room
+pub mod Demand
 pub mod Witnesses

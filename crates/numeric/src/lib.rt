@@ -21,20 +21,21 @@ pub fn comparison_random(
     ensures { λ r. ⌜ Met (comparisonRandomOf state code (now (payload .entry)) supplied) r (now (out .entry)) (now (out .exit)) ⌝ }
 {
     if code != 4 {
-        return state.failed(Failure::InvalidState);
+        return outcome::failed(state, Failure::InvalidState);
     }
     if payload.len() != 16 {
-        return state.failed(Failure::InvalidParameters);
+        return outcome::failed(state, Failure::InvalidParameters);
     }
     let method = state.method;
     compare(method, state, octets::reversed16(payload), supplied.g2, out)
 }
 
 // A command in WaitingNumericComparisonResult: one early DHKey check is held.
-pub fn hold_check(state: State, held: bool, code: u8, payload: &[u8]) -> Step
+pub fn hold(state: State, held: bool, code: u8, payload: &[u8]) -> Step
     ensures { λ r. ⌜ Quiet (holdCheckOf state held code (now (payload .entry))) r ⌝ }
 {
-    state.holds(
+    outcome::holds(
+        state,
         held,
         13,
         code,
@@ -54,11 +55,11 @@ pub fn comparison_event(
     ensures { λ r. ⌜ Met (comparisonEvent state held event supplied) r (now (out .entry)) (now (out .exit)) ⌝ }
 {
     match event {
-        Event::LinkEncryptedResult(_ok) => state.failed(Failure::InvalidState),
+        Event::LinkEncryptedResult(_ok) => outcome::failed(state, Failure::InvalidState),
         Event::PassKeyConfirm => confirmed(state, held, supplied, out),
-        Event::PassKeyCancel => state.failed(Failure::NumericComparisonFailed),
-        Event::PassKeyInput(_passkey) => state.failed(Failure::InvalidState),
-        Event::OobDataReceived => state.failed(Failure::InvalidState),
+        Event::PassKeyCancel => outcome::failed(state, Failure::NumericComparisonFailed),
+        Event::PassKeyInput(_passkey) => outcome::failed(state, Failure::InvalidState),
+        Event::OobDataReceived => outcome::failed(state, Failure::InvalidState),
     }
 }
 
@@ -72,13 +73,15 @@ fn compare(method: PairingMethod, state: State, na: [u8; 16], g2: u32, out: &mut
     let sent = frames::random(out, nb);
     let shown = ConnectionEvent::PassKeyConfirm(g2 % 1_000_000);
     match method {
-        PairingMethod::JustWorks => state.goes(
+        PairingMethod::JustWorks => outcome::goes(
+            state,
             Phase::WaitingDHKeyEa,
             secrets,
             sent,
             ConnectionEvent::Nothing,
         ),
-        PairingMethod::NumericComparison => state.goes(
+        PairingMethod::NumericComparison => outcome::goes(
+            state,
             Phase::WaitingNumericComparisonResult(false),
             secrets,
             sent,
@@ -87,13 +90,15 @@ fn compare(method: PairingMethod, state: State, na: [u8; 16], g2: u32, out: &mut
         PairingMethod::PassKeyEntry {
             central: _central,
             peripheral: _peripheral,
-        } => state.goes(
+        } => outcome::goes(
+            state,
             Phase::WaitingNumericComparisonResult(false),
             secrets,
             sent,
             shown,
         ),
-        PairingMethod::OutOfBand => state.goes(
+        PairingMethod::OutOfBand => outcome::goes(
+            state,
             Phase::WaitingNumericComparisonResult(false),
             secrets,
             sent,
@@ -111,5 +116,11 @@ fn confirmed(state: State, held: bool, supplied: Supplied, out: &mut [u8]) -> St
     if held {
         return dhkey::check_value(state, early, supplied, out);
     }
-    state.goes(Phase::WaitingDHKeyEa, secrets, 0, ConnectionEvent::Nothing)
+    outcome::goes(
+        state,
+        Phase::WaitingDHKeyEa,
+        secrets,
+        0,
+        ConnectionEvent::Nothing,
+    )
 }

@@ -20,10 +20,10 @@ pub fn oob_event(state: State, event: Event, values: OobData, supplied: Supplied
     ensures { λ r. ⌜ Quiet (oobEvent state event values supplied) r ⌝ }
 {
     match event {
-        Event::LinkEncryptedResult(_ok) => state.failed(Failure::InvalidState),
-        Event::PassKeyConfirm => state.failed(Failure::InvalidState),
-        Event::PassKeyCancel => state.failed(Failure::InvalidState),
-        Event::PassKeyInput(_passkey) => state.failed(Failure::InvalidState),
+        Event::LinkEncryptedResult(_ok) => outcome::failed(state, Failure::InvalidState),
+        Event::PassKeyConfirm => outcome::failed(state, Failure::InvalidState),
+        Event::PassKeyCancel => outcome::failed(state, Failure::InvalidState),
+        Event::PassKeyInput(_passkey) => outcome::failed(state, Failure::InvalidState),
         Event::OobDataReceived => received(state, values, supplied),
     }
 }
@@ -39,10 +39,10 @@ pub fn oob_random(
     ensures { λ r. ⌜ Met (oobRandomOf state code (now (payload .entry)) supplied) r (now (out .entry)) (now (out .exit)) ⌝ }
 {
     if code != 4 {
-        return state.failed(Failure::InvalidState);
+        return outcome::failed(state, Failure::InvalidState);
     }
     if payload.len() != 16 {
-        return state.failed(Failure::InvalidValue);
+        return outcome::failed(state, Failure::InvalidValue);
     }
     let na = octets::reversed16(payload);
     let nb = supplied.nonce;
@@ -50,7 +50,8 @@ pub fn oob_random(
     let mut secrets = state.secrets;
     secrets.na = na;
     secrets.nb = nb;
-    state.goes(
+    outcome::goes(
+        state,
         Phase::WaitingDHKeyEa,
         secrets,
         sent,
@@ -71,14 +72,15 @@ fn received(state: State, values: OobData, supplied: Supplied) -> Step
         let ours = our_secret(oob, local);
         secrets.ra = random;
         secrets.rb = ours;
-        return state.goes(
+        return outcome::goes(
+            state,
             Phase::WaitingOobRandom,
             secrets,
             0,
             ConnectionEvent::Nothing,
         );
     }
-    state.failed(Failure::ConfirmValueFailed)
+    outcome::failed(state, Failure::ConfirmValueFailed)
 }
 
 // Random and confirm all zero say that there is no data of the peer's; else the confirm must be the right one.

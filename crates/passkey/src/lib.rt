@@ -14,10 +14,17 @@ ghost use Rattle.machine.specs.Outcome.{Met, Quiet};
 ghost use Rattle.machine.specs.Passkey.{confirming, holdConfirmOf, typedOf, typingEvent, confirmOf, waits, randomOf};
 
 // A command in WaitingPassKeyInput: one early confirm is held.
-pub fn hold_confirm(state: State, held: bool, code: u8, payload: &[u8]) -> Step
+pub fn hold(state: State, held: bool, code: u8, payload: &[u8]) -> Step
     ensures { λ r. ⌜ Quiet (holdConfirmOf state held code (now (payload .entry))) r ⌝ }
 {
-    state.holds(held, 3, code, payload, Phase::WaitingPassKeyInput(true))
+    outcome::holds(
+        state,
+        held,
+        3,
+        code,
+        payload,
+        Phase::WaitingPassKeyInput(true),
+    )
 }
 
 // An event in WaitingPassKeyInput: the passkey, or the user's no.
@@ -31,11 +38,11 @@ pub fn typing_event(
     ensures { λ r. ⌜ Met (typingEvent state held event supplied) r (now (out .entry)) (now (out .exit)) ⌝ }
 {
     match event {
-        Event::LinkEncryptedResult(_ok) => state.failed(Failure::InvalidState),
-        Event::PassKeyConfirm => state.failed(Failure::InvalidState),
-        Event::PassKeyCancel => state.failed(Failure::PasskeyEntryFailed),
+        Event::LinkEncryptedResult(_ok) => outcome::failed(state, Failure::InvalidState),
+        Event::PassKeyConfirm => outcome::failed(state, Failure::InvalidState),
+        Event::PassKeyCancel => outcome::failed(state, Failure::PasskeyEntryFailed),
         Event::PassKeyInput(passkey) => typed(state, held, passkey, supplied, out),
-        Event::OobDataReceived => state.failed(Failure::InvalidState),
+        Event::OobDataReceived => outcome::failed(state, Failure::InvalidState),
     }
 }
 
@@ -51,10 +58,10 @@ pub fn confirm(
     ensures { λ r. ⌜ Met (confirmOf state round code (now (payload .entry)) supplied) r (now (out .entry)) (now (out .exit)) ⌝ }
 {
     if code != 3 {
-        return state.failed(Failure::InvalidState);
+        return outcome::failed(state, Failure::InvalidState);
     }
     if payload.len() != 16 {
-        return state.failed(Failure::InvalidParameters);
+        return outcome::failed(state, Failure::InvalidParameters);
     }
     let secrets = state.secrets;
     confirm_round(
@@ -79,10 +86,10 @@ pub fn random(
     ensures { λ r. ⌜ Met (randomOf state round code (now (payload .entry)) supplied) r (now (out .entry)) (now (out .exit)) ⌝ }
 {
     if code != 4 {
-        return state.failed(Failure::InvalidState);
+        return outcome::failed(state, Failure::InvalidState);
     }
     if payload.len() != 16 {
-        return state.failed(Failure::InvalidParameters);
+        return outcome::failed(state, Failure::InvalidParameters);
     }
     let mut secrets = state.secrets;
     let ca = secrets.ca;
@@ -92,9 +99,15 @@ pub fn random(
         let sent = frames::random(out, nb);
         let na = octets::reversed16(payload);
         secrets.na = na;
-        return state.goes(behind(round), secrets, sent, ConnectionEvent::Nothing);
+        return outcome::goes(
+            state,
+            behind(round),
+            secrets,
+            sent,
+            ConnectionEvent::Nothing,
+        );
     }
-    state.failed(Failure::ConfirmValueFailed)
+    outcome::failed(state, Failure::ConfirmValueFailed)
 }
 
 // The passkey was typed: it becomes both secrets, and a held confirm is round 0's.
@@ -103,11 +116,12 @@ fn typed(state: State, held: bool, passkey: u32, supplied: Supplied, out: &mut [
 {
     let secrets = state.secrets;
     let early = secrets.held;
-    let keyed = secrets.with_passkey(passkey);
+    let keyed = states::with_passkey(secrets, passkey);
     if held {
         return confirm_round(state, keyed, 0, early, supplied, out);
     }
-    state.goes(
+    outcome::goes(
+        state,
         Phase::WaitingPassKeyEntryConfirm(0),
         keyed,
         0,
@@ -132,7 +146,8 @@ fn confirm_round(
     let mut kept = secrets;
     kept.ca = ca;
     kept.nb = nb;
-    state.goes(
+    outcome::goes(
+        state,
         Phase::WaitingPassKeyEntryRandom(round),
         kept,
         sent,

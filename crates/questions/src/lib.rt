@@ -42,7 +42,7 @@ ghost use Rattle.machine.specs.Questions.{
 pub fn of_command(state: State, cmd: &[u8], supplied: Supplied, given: Given) -> Question
     ensures { λ r. ⌜ r ≡ nextOf given (questions state (command (now (cmd .entry))) supplied) ⌝ }
 {
-    if state.finished() {
+    if states::finished(state) {
         return none();
     }
     if cmd.len() == 0 {
@@ -63,7 +63,7 @@ pub fn of_event(
 ) -> Question
     ensures { λ r. ⌜ r ≡ nextOf given (questions state (event came values) supplied) ⌝ }
 {
-    if state.finished() {
+    if states::finished(state) {
         return none();
     }
     if in_range(came, values) {

@@ -59,7 +59,7 @@ pub fn request(state: State, code: u8, payload: &[u8], out: &mut [u8]) -> Step
     ensures { λ r. ⌜ Met (requestOf state code (now (payload .entry))) r (now (out .entry)) (now (out .exit)) ⌝ }
 {
     if code != 1 {
-        return state.failed(Failure::InvalidState);
+        return outcome::failed(state, Failure::InvalidState);
     }
     answer(state, accept(payload), out)
 }
@@ -69,7 +69,7 @@ fn answer(state: State, acceptance: Acceptance, out: &mut [u8]) -> Step
     ensures { λ r. ⌜ Met (accepting state acceptance) r (now (out .entry)) (now (out .exit)) ⌝ }
 {
     match acceptance {
-        Acceptance::Rejected(failure) => state.failed_after(lost_bond(state), failure),
+        Acceptance::Rejected(failure) => outcome::failed_after(state, lost_bond(state), failure),
         Acceptance::Accepted(peer) => {
             let setup = state.setup;
             let local = local_features(setup, peer);
@@ -90,7 +90,7 @@ fn answer(state: State, acceptance: Acceptance, out: &mut [u8]) -> Step
                 sent,
                 first: lost_bond(state),
                 second: ConnectionEvent::Nothing,
-                action: machine::no_action(),
+                action: states::no_action(),
                 answer: Answer::Taken,
             }
         }

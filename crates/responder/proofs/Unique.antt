@@ -1,7 +1,7 @@
 -- No second answer meets a contract of this crate. Assumes nothing.
 use denote.Ref.{now}
 use Rattle.octets.proofs.Settles.{Unique, Settles, only}
-use Rattle.responder.proofs.Front.{only-stands}
+use Rattle.responder.proofs.Handed.{only-stands}
 use Rattle.responder.proofs.Responder.command.Reads as command
 use Rattle.responder.proofs.Responder.event.Reads as event
 use Rattle.responder.proofs.Responder.command_question.Reads as command-question

@@ -3,26 +3,15 @@ use Prim.Native.Nat.{ℕ}
 use mathlib.Core.Path.{_≡_}
 use mathlib.Core.List.{List}
 use Rattle.octets.specs.Write.{laid, wrote}
-use Rattle.machine.specs.declared.Event.{Event}
-use Rattle.machine.specs.declared.OobData.{OobData}
-use Rattle.machine.specs.declared.Supplied.{Supplied}
 use Rattle.machine.specs.declared.Phase.{Phase}
 use Rattle.machine.specs.declared.Phase.the-variants as P
 use Rattle.machine.specs.declared.State.{State}
 use Rattle.machine.specs.declared.Step.{Step}
 use Rattle.machine.specs.Outcome.{Outcome, said}
-use Rattle.machine.specs.Step.{Call, command, event}
 use Rattle.responder.specs.declared.Responder.{Responder}
 use Rattle.responder.specs.declared.Stepped.{Stepped}
 use Rattle.responder.specs.declared.PairingResult.{PairingResult}
 use Rattle.responder.specs.declared.PairingResult.the-variants as R
-
--- a command's octets with what is supplied, and an event, to an outbox of n octets
-abbrev pub commandCall : List ℕ → Supplied → ℕ → Call
-commandCall cmd a n = record { input = command cmd; supplied = a; room = n }
-
-abbrev pub eventCall : Event → OobData → Supplied → ℕ → Call
-eventCall e o a n = record { input = event e o; supplied = a; room = n }
 
 -- a state, as a responder
 abbrev pub responderOf : State → Responder

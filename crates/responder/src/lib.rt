@@ -9,16 +9,15 @@ use machine::Given;
 use machine::OobData;
 use machine::Phase;
 use machine::Question;
-use machine::Refusal;
 use machine::State;
 use machine::Step;
 use machine::Supplied;
 ghost use mathlib.Core.Path.{_≡_};
 ghost use lib.ListN.{length};
-ghost use Rattle.machine.specs.Outcome.{Met};
-ghost use Rattle.machine.specs.Step.{command, event, onCommand, onEvent, step, timedOut};
+ghost use Rattle.machine.specs.Step.{command, event, step, timedOut};
 ghost use Rattle.machine.specs.Questions.{questions, nextOf};
-ghost use Rattle.responder.specs.Calls.{commandCall, eventCall, responderOf, steppedOf, Stands, resultOf};
+ghost use Rattle.front.specs.Calls.{commandCall, eventCall};
+ghost use Rattle.responder.specs.Calls.{responderOf, steppedOf, Stands, resultOf};
 
 pub struct Responder {
     pub state: State,
@@ -45,7 +44,7 @@ impl Responder {
         ensures { λ r. ⌜ Stands (step (self .state) (commandCall (now (cmd .entry)) supplied (length (now (out .entry))))) r (now (out .entry)) (now (out .exit)) ⌝ }
     {
         let state = self.state;
-        handed_back(on_command(state, cmd, supplied, out))
+        handed_back(front::on_command(state, cmd, supplied, out))
     }
 
     // An event from the user or the link, with the out-of-band values beside it.
@@ -53,7 +52,7 @@ impl Responder {
         ensures { λ r. ⌜ Stands (step (self .state) (eventCall came values supplied (length (now (out .entry))))) r (now (out .entry)) (now (out .exit)) ⌝ }
     {
         let state = self.state;
-        handed_back(on_event(state, came, values, supplied, out))
+        handed_back(front::on_event(state, came, values, supplied, out))
     }
 
     // The next question that a command asks, given the answers so far.
@@ -83,10 +82,10 @@ impl Responder {
         ensures { λ r. ⌜ r ≡ responderOf (timedOut (self .state)) ⌝ }
     {
         let state = self.state;
-        if state.finished() {
+        if states::finished(state) {
             return self;
         }
-        let ended = state.at(Phase::Error(Failure::Timeout));
+        let ended = states::at(state, Phase::Error(Failure::Timeout));
         Responder { state: ended }
     }
 
@@ -113,130 +112,6 @@ impl Responder {
             Phase::Success => PairingResult::Succeeded,
             Phase::Error(failure) => PairingResult::Failed(failure),
         }
-    }
-}
-
-// The refusals in their order, an empty command, and then the step of the phase.
-fn on_command(state: State, cmd: &[u8], supplied: Supplied, out: &mut [u8]) -> Step
-    ensures { λ r. ⌜ Met (step state (commandCall (now (cmd .entry)) supplied (length (now (out .entry))))) r (now (out .entry)) (now (out .exit)) ⌝ }
-{
-    if state.finished() {
-        return state.refused(Refusal::Finished);
-    }
-    if out.len() < 90 {
-        return state.refused(Refusal::OutboxShort);
-    }
-    if cmd.len() == 0 {
-        return state.failed(Failure::InvalidParameters);
-    }
-    let phase = state.phase;
-    let code = cmd[0];
-    by_command(phase, state, code, &cmd[1..], supplied, out)
-}
-
-// The refusals in their order, and then the step of the phase.
-fn on_event(state: State, came: Event, values: OobData, supplied: Supplied, out: &mut [u8]) -> Step
-    ensures { λ r. ⌜ Met (step state (eventCall came values supplied (length (now (out .entry))))) r (now (out .entry)) (now (out .exit)) ⌝ }
-{
-    if state.finished() {
-        return state.refused(Refusal::Finished);
-    }
-    if out.len() < 90 {
-        return state.refused(Refusal::OutboxShort);
-    }
-    if questions::in_range(came, values) {
-        let phase = state.phase;
-        return by_event(phase, state, came, values, supplied, out);
-    }
-    state.refused(Refusal::PasskeyRange)
-}
-
-fn by_command(
-    phase: Phase,
-    state: State,
-    code: u8,
-    payload: &[u8],
-    supplied: Supplied,
-    out: &mut [u8],
-) -> Step
-    ensures { λ r. ⌜ Met (onCommand phase state code (now (payload .entry)) supplied) r (now (out .entry)) (now (out .exit)) ⌝ }
-{
-    match phase {
-        Phase::WaitingPairingRequest => request::request(state, code, payload, out),
-        Phase::WaitingPublicKey => exchange::public_key(state, code, payload, supplied, out),
-        Phase::WaitingNumericComparisonRandom => numeric::comparison_random(
-            state,
-            code,
-            payload,
-            supplied,
-            out,
-        ),
-        Phase::WaitingNumericComparisonResult(held) => numeric::hold_check(
-            state,
-            held,
-            code,
-            payload,
-        ),
-        Phase::WaitingPassKeyInput(held) => passkey::hold_confirm(state, held, code, payload),
-        Phase::WaitingPassKeyEntryConfirm(round) => passkey::confirm(
-            state,
-            round,
-            code,
-            payload,
-            supplied,
-            out,
-        ),
-        Phase::WaitingPassKeyEntryRandom(round) => passkey::random(
-            state,
-            round,
-            code,
-            payload,
-            supplied,
-            out,
-        ),
-        Phase::WaitingOobData => state.failed(Failure::InvalidState),
-        Phase::WaitingOobRandom => oob::oob_random(state, code, payload, supplied, out),
-        Phase::WaitingDHKeyEa => dhkey::check(state, code, payload, supplied, out),
-        Phase::WaitingLinkEncrypted => state.failed(Failure::InvalidState),
-        Phase::WaitingIdentitityInformation => keys::identity_information(state, code, payload),
-        Phase::WaitingIdentitityAddressInformation => keys::identity_address(state, code, payload),
-        Phase::Success => state.refused(Refusal::Finished),
-        Phase::Error(_failure) => state.refused(Refusal::Finished),
-    }
-}
-
-fn by_event(
-    phase: Phase,
-    state: State,
-    came: Event,
-    values: OobData,
-    supplied: Supplied,
-    out: &mut [u8],
-) -> Step
-    ensures { λ r. ⌜ Met (onEvent phase state came values supplied) r (now (out .entry)) (now (out .exit)) ⌝ }
-{
-    match phase {
-        Phase::WaitingPairingRequest => keys::bonded_link_event(state, came, out),
-        Phase::WaitingPublicKey => state.failed(Failure::InvalidState),
-        Phase::WaitingNumericComparisonRandom => state.failed(Failure::InvalidState),
-        Phase::WaitingNumericComparisonResult(held) => numeric::comparison_event(
-            state,
-            held,
-            came,
-            supplied,
-            out,
-        ),
-        Phase::WaitingPassKeyInput(held) => passkey::typing_event(state, held, came, supplied, out),
-        Phase::WaitingPassKeyEntryConfirm(_round) => state.failed(Failure::InvalidState),
-        Phase::WaitingPassKeyEntryRandom(_round) => state.failed(Failure::InvalidState),
-        Phase::WaitingOobData => oob::oob_event(state, came, values, supplied),
-        Phase::WaitingOobRandom => state.failed(Failure::InvalidState),
-        Phase::WaitingDHKeyEa => state.failed(Failure::InvalidState),
-        Phase::WaitingLinkEncrypted => keys::encrypted_event(state, came, out),
-        Phase::WaitingIdentitityInformation => state.failed(Failure::InvalidState),
-        Phase::WaitingIdentitityAddressInformation => state.failed(Failure::InvalidState),
-        Phase::Success => state.refused(Refusal::Finished),
-        Phase::Error(_failure) => state.refused(Refusal::Finished),
     }
 }
 

@@ -137,10 +137,10 @@ fn fresh(setup: Setup) -> State
             responder: 0,
         },
         method: PairingMethod::JustWorks,
-        secrets: Secrets::fresh([0u8; 32], [0u8; 32]),
+        secrets: states::fresh_secrets([0u8; 32], [0u8; 32]),
         bond: MaybeBond {
             there: false,
-            bond: machine::no_bond(),
+            bond: states::no_bond(),
         },
         peer,
     }
@@ -161,7 +161,7 @@ fn refused(setup: Setup, refusal: Refusal) -> Begun
     ensures { λ r. ⌜ r ≡ begunOf (startRefused setup refusal) 0 ⌝ }
 {
     let state = fresh(setup);
-    let ended = state.at(Phase::Error(Failure::InvalidState));
+    let ended = states::at(state, Phase::Error(Failure::InvalidState));
     Begun {
         responder: Responder { state: ended },
         sent: 0,

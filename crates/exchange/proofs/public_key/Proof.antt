@@ -21,7 +21,7 @@ returns-3 c =
     let half : length (take 32 body) ≡ 32 = length-take-le 32 body (omega (arith, c .before .before .before .before .before .before .before .before .if2 .left)) in
     expected _ _ _ _ _ _ _ _ (c .before .before .before .before .before .before .before .before .before .if1 .left) (c .before .before .before .before .before .before .before .before .if2 .left)
     (passes _ _ _ _ _ (c .before .before .before .before .before .before .before .if3 .taken)
-    (rw (← (c .before .before .before .before .before .peer-x .ensures ∙ turned-whole 32 (take 32 body) half), ← c .before .before .before .before .fresh .ensures) (c .before .before .begin .ensures)))
+    (rw (← (c .before .before .before .before .before .peer-x .ensures ∙ turned-whole 32 (take 32 body) half), ← c .before .before .before .before .fresh-secrets .ensures) (c .before .before .begin .ensures)))
 
 returns-4 : tie.Need-returns-4
 returns-4 c =

@@ -1,7 +1,7 @@
 -- `wrapper::refused` meets its contract. Assumes nothing.
 use Rattle.wrapper.specs.Starts.{startRefused}
 use borrow.Author.Needs.{needs}
-use Rattle.machine.proofs.State.at.Reads as at-reads
+use Rattle.states.proofs.at.Reads as at-reads
 use Rattle.wrapper.proofs.fresh.Reads as fresh-reads
 use Rattle.wrapper.proofs.refused.Statement.{statement}
 use Rattle.wrapper.proofs.refused.Tie as tie

@@ -1,5 +1,5 @@
 -- `responder::Responder::command` meets its contract. Assumes nothing.
-use Rattle.responder.proofs.Front.{handed}
+use Rattle.responder.proofs.Handed.{handed}
 use borrow.Author.Needs.{needs}
 use Rattle.responder.proofs.Responder.command.Statement.{statement}
 use Rattle.responder.proofs.Responder.command.Tie as tie

@@ -1,5 +1,5 @@
 -- `responder::Responder::event` meets its contract. Assumes nothing.
-use Rattle.responder.proofs.Front.{handed}
+use Rattle.responder.proofs.Handed.{handed}
 use borrow.Author.Needs.{needs}
 use Rattle.responder.proofs.Responder.event.Statement.{statement}
 use Rattle.responder.proofs.Responder.event.Tie as tie

@@ -1,0 +1,26 @@
+-- No second answer meets a contract of this crate. Assumes nothing.
+use Rattle.octets.proofs.Settles.{Unique, only}
+use Rattle.states.proofs.at.Reads as at
+use Rattle.states.proofs.finished.Reads as finished
+use Rattle.states.proofs.fresh_secrets.Reads as fresh-secrets
+use Rattle.states.proofs.with_passkey.Reads as with-passkey
+use Rattle.states.proofs.no_bond.Reads as no-bond
+use Rattle.states.proofs.no_action.Reads as no-action
+
+pub at-unique : Unique at.Post
+at-unique κs a z z′ e e′ p q = only p q
+
+pub finished-unique : Unique finished.Post
+finished-unique κs a z z′ e e′ p q = only p q
+
+pub fresh-secrets-unique : Unique fresh-secrets.Post
+fresh-secrets-unique κs a z z′ e e′ p q = only p q
+
+pub with-passkey-unique : Unique with-passkey.Post
+with-passkey-unique κs a z z′ e e′ p q = only p q
+
+pub no-bond-unique : Unique no-bond.Post
+no-bond-unique κs a z z′ e e′ p q = only p q
+
+pub no-action-unique : Unique no-action.Post
+no-action-unique κs a z z′ e e′ p q = only p q
