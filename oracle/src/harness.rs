@@ -11,6 +11,7 @@ use crate::security_manager::types::BondingFlag;
 use crate::security_manager::TxPacket;
 use crate::{Address, BondInformation, Error, Identity, LongTermKey, Packet, PacketPool};
 
+#[derive(Clone)]
 pub struct Setup {
     pub peer_address: Address,
     pub identity_address: Address,
@@ -49,6 +50,11 @@ impl Ops {
             events: Vec::new(),
             actions: Vec::new(),
         }
+    }
+
+    /// The same box with nothing recorded yet.
+    pub fn again(&self) -> Self {
+        Self::new(self.setup.clone())
     }
 }
 

@@ -26,6 +26,8 @@ mod combinations;
 #[cfg(not(feature = "legacy-pairing"))]
 mod harness;
 #[cfg(not(feature = "legacy-pairing"))]
+mod runs;
+#[cfg(not(feature = "legacy-pairing"))]
 mod samples;
 #[cfg(not(feature = "legacy-pairing"))]
 mod smoke;
@@ -39,6 +41,12 @@ fn main() -> ExitCode {
     match std::env::args().nth(1).as_deref() {
         #[cfg(feature = "legacy-pairing")]
         Some("combinations") => combinations::run(),
+        #[cfg(not(feature = "legacy-pairing"))]
+        Some("runs") => runs::run(),
+        #[cfg(not(feature = "legacy-pairing"))]
+        Some("sample") => runs::sample(),
+        #[cfg(not(feature = "legacy-pairing"))]
+        Some("show") => runs::show(),
         #[cfg(not(feature = "legacy-pairing"))]
         Some("samples") => samples::run(),
         #[cfg(not(feature = "legacy-pairing"))]

@@ -46,7 +46,7 @@ pub fn on_event(
     if out.len() < 90 {
         return outcome::refused(state, Refusal::OutboxShort);
     }
-    if questions::in_range(came, values) {
+    if states::in_range(came, values) {
         let phase = state.phase;
         return by_event(phase, state, came, values, supplied, out);
     }

@@ -66,24 +66,11 @@ pub fn of_event(
     if states::finished(state) {
         return none();
     }
-    if in_range(came, values) {
+    if states::in_range(came, values) {
         let phase = state.phase;
         return by_event(phase, state, came, values, supplied, given);
     }
     none()
-}
-
-// Whether the passkey of an event is one; an event without a passkey has nothing to refuse.
-pub fn in_range(came: Event, values: OobData) -> bool
-    ensures { λ r. ⌜ r ≡ ranged (event came values) ⌝ }
-{
-    match came {
-        Event::LinkEncryptedResult(_ok) => true,
-        Event::PassKeyConfirm => true,
-        Event::PassKeyCancel => true,
-        Event::PassKeyInput(passkey) => rounds::in_range(passkey),
-        Event::OobDataReceived => true,
-    }
 }
 
 fn by_command(

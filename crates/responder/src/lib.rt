@@ -95,23 +95,7 @@ impl Responder {
     {
         let state = self.state;
         let phase = state.phase;
-        match phase {
-            Phase::WaitingPairingRequest => PairingResult::Running,
-            Phase::WaitingPublicKey => PairingResult::Running,
-            Phase::WaitingNumericComparisonRandom => PairingResult::Running,
-            Phase::WaitingNumericComparisonResult(_held) => PairingResult::Running,
-            Phase::WaitingPassKeyInput(_held) => PairingResult::Running,
-            Phase::WaitingPassKeyEntryConfirm(_round) => PairingResult::Running,
-            Phase::WaitingPassKeyEntryRandom(_round) => PairingResult::Running,
-            Phase::WaitingOobData => PairingResult::Running,
-            Phase::WaitingOobRandom => PairingResult::Running,
-            Phase::WaitingDHKeyEa => PairingResult::Running,
-            Phase::WaitingLinkEncrypted => PairingResult::Running,
-            Phase::WaitingIdentitityInformation => PairingResult::Running,
-            Phase::WaitingIdentitityAddressInformation => PairingResult::Running,
-            Phase::Success => PairingResult::Succeeded,
-            Phase::Error(failure) => PairingResult::Failed(failure),
-        }
+        result_of(phase)
     }
 }
 
@@ -130,5 +114,27 @@ fn handed_back(done: Step) -> Stepped
         second,
         action,
         answer,
+    }
+}
+
+fn result_of(phase: Phase) -> PairingResult
+    ensures { λ r. ⌜ r ≡ resultOf phase ⌝ }
+{
+    match phase {
+        Phase::WaitingPairingRequest => PairingResult::Running,
+        Phase::WaitingPublicKey => PairingResult::Running,
+        Phase::WaitingNumericComparisonRandom => PairingResult::Running,
+        Phase::WaitingNumericComparisonResult(_held) => PairingResult::Running,
+        Phase::WaitingPassKeyInput(_held) => PairingResult::Running,
+        Phase::WaitingPassKeyEntryConfirm(_round) => PairingResult::Running,
+        Phase::WaitingPassKeyEntryRandom(_round) => PairingResult::Running,
+        Phase::WaitingOobData => PairingResult::Running,
+        Phase::WaitingOobRandom => PairingResult::Running,
+        Phase::WaitingDHKeyEa => PairingResult::Running,
+        Phase::WaitingLinkEncrypted => PairingResult::Running,
+        Phase::WaitingIdentitityInformation => PairingResult::Running,
+        Phase::WaitingIdentitityAddressInformation => PairingResult::Running,
+        Phase::Success => PairingResult::Succeeded,
+        Phase::Error(failure) => PairingResult::Failed(failure),
     }
 }

@@ -6,6 +6,7 @@ use Rattle.states.proofs.fresh_secrets.Reads as fresh-secrets
 use Rattle.states.proofs.with_passkey.Reads as with-passkey
 use Rattle.states.proofs.no_bond.Reads as no-bond
 use Rattle.states.proofs.no_action.Reads as no-action
+use Rattle.states.proofs.in_range.Reads as in-range
 
 pub at-unique : Unique at.Post
 at-unique κs a z z′ e e′ p q = only p q
@@ -24,3 +25,6 @@ no-bond-unique κs a z z′ e e′ p q = only p q
 
 pub no-action-unique : Unique no-action.Post
 no-action-unique κs a z z′ e e′ p q = only p q
+
+pub in-range-unique : Unique in-range.Post
+in-range-unique κs a z z′ e e′ p q = only p q

@@ -1,9 +1,12 @@
-// The values that a state is made of: its phase set, secrets as they begin and once a passkey is known, no bond and no action.
+// What every step uses: a state in another phase, secrets as they begin and once a passkey is known, no bond and no action, whether a
+// machine is finished, and whether an event's passkey is in range.
 use address::Address;
 use address::AddressKind;
 use machine::Action;
 use machine::ActionKind;
 use machine::Bond;
+use machine::Event;
+use machine::OobData;
 use machine::Phase;
 use machine::Secrets;
 use machine::State;
@@ -11,6 +14,7 @@ use method::SecurityLevel;
 ghost use mathlib.Core.Path.{_≡_};
 ghost use Rattle.machine.specs.Outcome.{at, noBond, noAction, finishedPhase};
 ghost use Rattle.machine.specs.Secrets.{fresh, setPasskey};
+ghost use Rattle.machine.specs.Step.{event, ranged};
 
 // The same machine in another phase.
 pub fn at(state: State, phase: Phase) -> State
@@ -108,5 +112,18 @@ pub fn no_action() -> Action
     Action {
         kind: ActionKind::Nothing,
         bond: no_bond(),
+    }
+}
+
+// Whether the passkey of an event is one; an event without a passkey has nothing to refuse.
+pub fn in_range(came: Event, values: OobData) -> bool
+    ensures { λ r. ⌜ r ≡ ranged (event came values) ⌝ }
+{
+    match came {
+        Event::LinkEncryptedResult(_ok) => true,
+        Event::PassKeyConfirm => true,
+        Event::PassKeyCancel => true,
+        Event::PassKeyInput(passkey) => rounds::in_range(passkey),
+        Event::OobDataReceived => true,
     }
 }

@@ -27,6 +27,23 @@ pub struct BondInformation {
     pub security_level: SecurityLevel,
 }
 
+/// g2 before its modulo, which the crate's own g2 hides (Part H 2.2.9).
+#[cfg(not(feature = "legacy-pairing"))]
+pub(crate) fn g2_word(
+    u: &crypto::PublicKeyX,
+    v: &crypto::PublicKeyX,
+    x: crypto::Nonce,
+    y: crypto::Nonce,
+) -> u32 {
+    let mut mac = crypto::AesCmac::new(&crypto::Key::new(x.0));
+    mac.update(u.as_be_bytes())
+        .update(v.as_be_bytes())
+        .update(y.0.to_be_bytes());
+    let word = mac.finalize() as u32;
+    assert_eq!(word % 1_000_000, x.g2(u, v, &y).0);
+    word
+}
+
 /// An L2CAP basic frame: length, channel, command code, payload.
 pub(crate) struct TxPacket<P: PacketPool> {
     packet: P::Packet,

@@ -1,10 +1,14 @@
 //! Stands in for the missing pairing/central.rs: a machine that cannot be made. Being a module
-//! below `pairing`, it is also the door through which our programs reach the private `util`.
+//! below `pairing`, it is also the door through which our programs reach the private `util` and,
+//! by `view`, the machine's private state.
 
 use super::{Input, PairingData};
 use crate::Error;
 
 pub(crate) use super::util::{choose_pairing_method, PairingMethod, PassKeyEntryAction};
+
+#[cfg(not(feature = "legacy-pairing"))]
+pub(crate) mod view;
 
 /// It has no value, so whatever takes one never runs.
 #[derive(Debug)]

@@ -1,0 +1,4 @@
+pub mod Headers
+pub mod Answers
+pub mod Return
+pub mod Unique

@@ -1,0 +1,11 @@
+-- `fields::byte` meets its contract. Assumes nothing.
+use Rattle.fields.proofs.Parts.{byte-past}
+use borrow.Author.Needs.{needs}
+use Rattle.fields.proofs.byte.Statement.{statement}
+use Rattle.fields.proofs.byte.Tie as tie
+
+returns-2 : tie.Need-returns-2
+returns-2 c = byte-past (c .before .args .p .now) (c .before .args .at) (c .if1 .left)
+
+pub byte-spec : {M : Type 1} → statement M
+byte-spec = tie.close (tie.spec (λ c. search needs) (λ c. search needs) returns-2)

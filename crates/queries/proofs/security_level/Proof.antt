@@ -1,0 +1,27 @@
+-- `queries::security_level` meets its contract. Assumes nothing.
+use mathlib.Core.Path.{sym, ap, _∙_}
+use Rattle.machine.specs.Step.{securityLevel}
+use borrow.Author.Needs.{needs}
+use Rattle.queries.proofs.is_encrypted.Reads as is-encrypted-reads
+use Rattle.queries.proofs.security_level.Statement.{statement}
+use Rattle.queries.proofs.security_level.Tie as tie
+use Rattle.queries.proofs.security_level.Reads as reads
+use Rattle.queries.proofs.security_level.Lts as lts
+
+is-encrypted-requires : tie.Need-is-encrypted-requires
+is-encrypted-requires c κs = search needs
+
+returns : tie.Need-returns
+unfolding securityLevel
+returns c = rw (sym (c .before .before .is-encrypted .ensures) ∙ c .before .if1 .taken, c .if2 .taken)
+
+returns-2 : tie.Need-returns-2
+unfolding securityLevel
+returns-2 c = rw (sym (c .before .before .is-encrypted .ensures) ∙ c .before .if1 .taken, c .if2 .left)
+
+returns-3 : tie.Need-returns-3
+unfolding securityLevel
+returns-3 c = rw (sym (c .before .is-encrypted .ensures) ∙ c .if1 .left)
+
+pub security-level-spec : {M : Type 1} → statement M
+security-level-spec = tie.close (tie.spec is-encrypted-requires returns returns-2 returns-3)

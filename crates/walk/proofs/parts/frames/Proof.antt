@@ -1,0 +1,53 @@
+-- `walk::parts::frames` is safe and ends: each turn passes one frame, which is not empty. Assumes nothing.
+use Prim.Native.Nat.{_≤_, _-_}
+use mathlib.Core.Path.{_≡_}
+use native.Mathlib.Omega.{arith}
+use lib.ListN.{length}
+use borrow.Author.Needs.{needs}
+use Rattle.walk.proofs.Frames.{end-most, end-some}
+use Rattle.walk.proofs.parts.frames.Statement.{statement}
+use Rattle.walk.proofs.parts.frames.Tie as tie
+
+abbrev Inv-loop : tie.InvT-loop
+Inv-loop out₀ at sent place₀ begin₀ out place begin = (begin ≤ length sent) × (length out ≡ length out₀)
+
+abbrev μ-loop : tie.MeasureT-loop
+μ-loop out₀ at sent place₀ begin₀ out place begin = length sent - begin
+
+add-end : tie.Need-add-end Inv-loop μ-loop
+add-end c = omega (arith, end-most _ (c .frame-end .ensures))
+
+part-hex-end : tie.Need-part-hex-end Inv-loop μ-loop
+part-hex-end c = omega (arith, end-most _ (c .before .before .before .before .before .frame-end .ensures))
+
+loop-less : tie.Need-loop-less Inv-loop μ-loop
+loop-less c = omega (arith, end-some _ (c .before .before .before .before .before .before .before .before .before .frame-end .ensures) (omega arith))
+
+loop-again : tie.Need-loop-again Inv-loop μ-loop
+loop-again c = (omega (arith, end-most _ (c .before .before .before .before .before .before .before .before .before .frame-end .ensures)), omega arith)
+
+pub frames-spec : {M : Type 1} → statement M
+frames-spec =
+    tie.close
+    (tie.spec
+    Inv-loop
+    μ-loop
+    (λ c. search needs)
+    (λ c κs. search needs)
+    (λ c. search needs)
+    (λ c. search needs)
+    (λ c. search needs)
+    (λ c. search needs)
+    (λ c. search needs)
+    (λ c. search needs)
+    (λ c κs. search needs)
+    add-end
+    (λ c κs. search needs)
+    (λ c. search needs)
+    (λ c. search needs)
+    part-hex-end
+    (λ c κs. search needs)
+    loop-less
+    loop-again
+    (λ c. search needs)
+    (λ c. search needs))
