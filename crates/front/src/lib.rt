@@ -113,7 +113,7 @@ fn by_event(
     ensures { λ r. ⌜ Met (onEvent phase state came values supplied) r (now (out .entry)) (now (out .exit)) ⌝ }
 {
     match phase {
-        Phase::WaitingPairingRequest => keys::bonded_link_event(state, came, out),
+        Phase::WaitingPairingRequest => link::bonded_link_event(state, came, out),
         Phase::WaitingPublicKey => outcome::failed(state, Failure::InvalidState),
         Phase::WaitingNumericComparisonRandom => outcome::failed(state, Failure::InvalidState),
         Phase::WaitingNumericComparisonResult(held) => numeric::comparison_event(
@@ -129,7 +129,7 @@ fn by_event(
         Phase::WaitingOobData => oob::oob_event(state, came, values, supplied),
         Phase::WaitingOobRandom => outcome::failed(state, Failure::InvalidState),
         Phase::WaitingDHKeyEa => outcome::failed(state, Failure::InvalidState),
-        Phase::WaitingLinkEncrypted => keys::encrypted_event(state, came, out),
+        Phase::WaitingLinkEncrypted => link::encrypted_event(state, came, out),
         Phase::WaitingIdentitityInformation => outcome::failed(state, Failure::InvalidState),
         Phase::WaitingIdentitityAddressInformation => outcome::failed(state, Failure::InvalidState),
         Phase::Success => outcome::refused(state, Refusal::Finished),

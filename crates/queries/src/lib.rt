@@ -1,11 +1,28 @@
 // What is to be known of a pairing from outside.
 use address::Address;
+use machine::Failure;
 use machine::MaybeBond;
 use machine::Phase;
 use method::SecurityLevel;
 use responder::Responder;
 ghost use mathlib.Core.Path.{_≡_};
 ghost use Rattle.machine.specs.Step.{encrypted, securityLevel};
+ghost use Rattle.queries.specs.Result.{resultOf};
+
+pub enum PairingResult {
+    Running,
+    Succeeded,
+    Failed(Failure),
+}
+
+// How the pairing ended, if it has.
+pub fn result(responder: Responder) -> PairingResult
+    ensures { λ r. ⌜ r ≡ resultOf (responder .state .phase) ⌝ }
+{
+    let state = responder.state;
+    let phase = state.phase;
+    result_of(phase)
+}
 
 // Whether the link counts as encrypted.
 pub fn is_encrypted(responder: Responder) -> bool
@@ -70,5 +87,27 @@ fn encrypted_in(phase: Phase) -> bool
         Phase::WaitingIdentitityAddressInformation => true,
         Phase::Success => true,
         Phase::Error(_failure) => false,
+    }
+}
+
+fn result_of(phase: Phase) -> PairingResult
+    ensures { λ r. ⌜ r ≡ resultOf phase ⌝ }
+{
+    match phase {
+        Phase::WaitingPairingRequest => PairingResult::Running,
+        Phase::WaitingPublicKey => PairingResult::Running,
+        Phase::WaitingNumericComparisonRandom => PairingResult::Running,
+        Phase::WaitingNumericComparisonResult(_held) => PairingResult::Running,
+        Phase::WaitingPassKeyInput(_held) => PairingResult::Running,
+        Phase::WaitingPassKeyEntryConfirm(_round) => PairingResult::Running,
+        Phase::WaitingPassKeyEntryRandom(_round) => PairingResult::Running,
+        Phase::WaitingOobData => PairingResult::Running,
+        Phase::WaitingOobRandom => PairingResult::Running,
+        Phase::WaitingDHKeyEa => PairingResult::Running,
+        Phase::WaitingLinkEncrypted => PairingResult::Running,
+        Phase::WaitingIdentitityInformation => PairingResult::Running,
+        Phase::WaitingIdentitityAddressInformation => PairingResult::Running,
+        Phase::Success => PairingResult::Succeeded,
+        Phase::Error(failure) => PairingResult::Failed(failure),
     }
 }

@@ -7,7 +7,6 @@ use Rattle.responder.proofs.Responder.event.Reads as event
 use Rattle.responder.proofs.Responder.command_question.Reads as command-question
 use Rattle.responder.proofs.Responder.event_question.Reads as event-question
 use Rattle.responder.proofs.Responder.mark_timeout.Reads as mark-timeout
-use Rattle.responder.proofs.Responder.result.Reads as result
 
 pub command-settled : Settles command.Post (λ κs e. now (e .1 .1 .1 .0))
 command-settled κs a z z′ e e′ p q = only-stands p q
@@ -23,6 +22,3 @@ event-question-unique κs a z z′ e e′ p q = only p q
 
 pub mark-timeout-unique : Unique mark-timeout.Post
 mark-timeout-unique κs a z z′ e e′ p q = only p q
-
-pub result-unique : Unique result.Post
-result-unique κs a z z′ e e′ p q = only p q

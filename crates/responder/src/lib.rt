@@ -17,7 +17,7 @@ ghost use lib.ListN.{length};
 ghost use Rattle.machine.specs.Step.{command, event, step, timedOut};
 ghost use Rattle.machine.specs.Questions.{questions, nextOf};
 ghost use Rattle.front.specs.Calls.{commandCall, eventCall};
-ghost use Rattle.responder.specs.Calls.{responderOf, steppedOf, Stands, resultOf};
+ghost use Rattle.responder.specs.Calls.{responderOf, steppedOf, Stands};
 
 pub struct Responder {
     pub state: State,
@@ -30,12 +30,6 @@ pub struct Stepped {
     pub second: ConnectionEvent,
     pub action: Action,
     pub answer: Answer,
-}
-
-pub enum PairingResult {
-    Running,
-    Succeeded,
-    Failed(Failure),
 }
 
 impl Responder {
@@ -88,15 +82,6 @@ impl Responder {
         let ended = states::at(state, Phase::Error(Failure::Timeout));
         Responder { state: ended }
     }
-
-    // How the pairing ended, if it has.
-    pub fn result(self) -> PairingResult
-        ensures { λ r. ⌜ r ≡ resultOf (self .state .phase) ⌝ }
-    {
-        let state = self.state;
-        let phase = state.phase;
-        result_of(phase)
-    }
 }
 
 fn handed_back(done: Step) -> Stepped
@@ -114,27 +99,5 @@ fn handed_back(done: Step) -> Stepped
         second,
         action,
         answer,
-    }
-}
-
-fn result_of(phase: Phase) -> PairingResult
-    ensures { λ r. ⌜ r ≡ resultOf phase ⌝ }
-{
-    match phase {
-        Phase::WaitingPairingRequest => PairingResult::Running,
-        Phase::WaitingPublicKey => PairingResult::Running,
-        Phase::WaitingNumericComparisonRandom => PairingResult::Running,
-        Phase::WaitingNumericComparisonResult(_held) => PairingResult::Running,
-        Phase::WaitingPassKeyInput(_held) => PairingResult::Running,
-        Phase::WaitingPassKeyEntryConfirm(_round) => PairingResult::Running,
-        Phase::WaitingPassKeyEntryRandom(_round) => PairingResult::Running,
-        Phase::WaitingOobData => PairingResult::Running,
-        Phase::WaitingOobRandom => PairingResult::Running,
-        Phase::WaitingDHKeyEa => PairingResult::Running,
-        Phase::WaitingLinkEncrypted => PairingResult::Running,
-        Phase::WaitingIdentitityInformation => PairingResult::Running,
-        Phase::WaitingIdentitityAddressInformation => PairingResult::Running,
-        Phase::Success => PairingResult::Succeeded,
-        Phase::Error(failure) => PairingResult::Failed(failure),
     }
 }

@@ -1,8 +1,8 @@
--- `keys::bonded_link` meets its contract. Assumes nothing.
+-- `link::bonded_link` meets its contract. Assumes nothing.
 use Rattle.machine.proofs.Outcome.{passes, fails}
 use borrow.Author.Needs.{needs}
-use Rattle.keys.proofs.bonded_link.Statement.{statement}
-use Rattle.keys.proofs.bonded_link.Tie as tie
+use Rattle.link.proofs.bonded_link.Statement.{statement}
+use Rattle.link.proofs.bonded_link.Tie as tie
 
 returns : tie.Need-returns
 returns c = passes _ _ _ _ _ (c .before .before .before .before .before .before .if1 .taken) (c .before .before .distribute .ensures)

@@ -1,9 +1,9 @@
--- `keys::send_identity` meets its contract. Assumes nothing.
+-- `link::send_identity` meets its contract. Assumes nothing.
 use mathlib.Core.Path.{sym, _∙_}
 use Rattle.machine.proofs.Outcome.{nothing}
 use borrow.Author.Needs.{needs}
-use Rattle.keys.proofs.send_identity.Statement.{statement}
-use Rattle.keys.proofs.send_identity.Tie as tie
+use Rattle.link.proofs.send_identity.Statement.{statement}
+use Rattle.link.proofs.send_identity.Tie as tie
 
 returns : tie.Need-returns
 returns c = rw (← c .before .before .before .before .before .before .before .before .local-features .ensures, sym (c .before .before .before .before .before .identity-key .ensures) ∙ c .before .before .before .before .if1 .taken) (c .before .before .identity2 .ensures)

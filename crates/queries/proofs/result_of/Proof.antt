@@ -1,7 +1,7 @@
--- `responder::result_of` meets its contract. Assumes nothing.
+-- `queries::result_of` meets its contract. Assumes nothing.
 use borrow.Author.Needs.{needs}
-use Rattle.responder.proofs.result_of.Statement.{statement}
-use Rattle.responder.proofs.result_of.Tie as tie
+use Rattle.queries.proofs.result_of.Statement.{statement}
+use Rattle.queries.proofs.result_of.Tie as tie
 
 returns-4 : tie.Need-returns-4
 returns-4 c = rw (c .before .phase .given .1)

@@ -1,8 +1,8 @@
--- `keys::encrypted` meets its contract. Assumes nothing.
+-- `link::encrypted` meets its contract. Assumes nothing.
 use Rattle.machine.proofs.Outcome.{passes, fails}
 use borrow.Author.Needs.{needs}
-use Rattle.keys.proofs.encrypted.Statement.{statement}
-use Rattle.keys.proofs.encrypted.Tie as tie
+use Rattle.link.proofs.encrypted.Statement.{statement}
+use Rattle.link.proofs.encrypted.Tie as tie
 
 returns : tie.Need-returns
 returns c = passes _ _ _ _ _ (c .before .before .before .before .if1 .taken) (c .before .before .distribute .ensures)

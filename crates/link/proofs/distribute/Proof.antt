@@ -1,9 +1,9 @@
--- `keys::distribute` meets its contract. Assumes nothing.
+-- `link::distribute` meets its contract. Assumes nothing.
 use mathlib.Core.Path.{sym, _∙_}
 use Rattle.machine.proofs.Outcome.{met-goes, met-succeeds}
 use borrow.Author.Needs.{needs}
-use Rattle.keys.proofs.distribute.Statement.{statement}
-use Rattle.keys.proofs.distribute.Tie as tie
+use Rattle.link.proofs.distribute.Statement.{statement}
+use Rattle.link.proofs.distribute.Tie as tie
 
 returns : tie.Need-returns
 returns c =
