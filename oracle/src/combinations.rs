@@ -4,9 +4,8 @@
 use std::fmt;
 use std::process::ExitCode;
 
-use crate::security_manager::pairing::central::{
-    choose_pairing_method, PairingMethod, PassKeyEntryAction,
-};
+use crate::methods::method_name;
+use crate::security_manager::pairing::central::choose_pairing_method;
 use crate::security_manager::pairing::legacy_central::choose_legacy_pairing_method;
 use crate::security_manager::types::{AuthReq, BondingFlag, PairingFeatures, UseOutOfBand};
 use crate::IoCapabilities;
@@ -43,9 +42,9 @@ fn print_line(central: &Side, peripheral: &Side) {
     let legacy = choose_legacy_pairing_method(central.features(), peripheral.features());
     println!(
         "central {central} peripheral {peripheral} lesc {} {:?} legacy {} {:?}",
-        name(lesc),
+        method_name(lesc, ""),
         lesc.security_level(),
-        name(legacy),
+        method_name(legacy, ""),
         legacy.security_level()
     );
 }
@@ -81,23 +80,5 @@ impl fmt::Display for Side {
             u8::from(self.oob),
             u8::from(self.mitm)
         )
-    }
-}
-
-fn name(method: PairingMethod) -> &'static str {
-    use PassKeyEntryAction::{Display, Input};
-    match method {
-        PairingMethod::JustWorks => "JustWorks",
-        PairingMethod::NumericComparison => "NumericComparison",
-        PairingMethod::OutOfBand => "OutOfBand",
-        PairingMethod::PassKeyEntry {
-            central,
-            peripheral,
-        } => match (central, peripheral) {
-            (Display, Input) => "CentralDisplays",
-            (Input, Display) => "PeripheralDisplays",
-            (Input, Input) => "BothInput",
-            (Display, Display) => "BothDisplay",
-        },
     }
 }

@@ -7,6 +7,7 @@ mod log;
 mod codec;
 mod connection;
 mod host;
+mod methods;
 #[allow(warnings)]
 mod pdu;
 mod security_manager;

@@ -5,7 +5,8 @@ use crate::harness::Action;
 use crate::runs::calls::irk;
 use crate::runs::twin::Outcome;
 use crate::security_manager::pairing::central::view::{self, Phase};
-use crate::security_manager::pairing::central::{PairingMethod, PassKeyEntryAction};
+use crate::methods::method_name;
+use crate::security_manager::pairing::central::PairingMethod;
 use crate::security_manager::pairing::Pairing;
 use crate::{Address, BondInformation, Error};
 
@@ -53,7 +54,7 @@ impl Seen {
             Some(error) => format!("Error:{}", numbered(error)),
             None => self.phase.name.to_string(),
         };
-        let method = method_name(self.method);
+        let method = method_name(self.method, "PassKeyEntry:");
         let round = self.phase.round.map_or("-".into(), |r| r.to_string());
         let held = self
             .phase
@@ -166,24 +167,6 @@ fn numbered(error: &Error) -> String {
         _ => "not-in-01",
     };
     format!("{number}:{name}")
-}
-
-pub fn method_name(method: PairingMethod) -> &'static str {
-    use PassKeyEntryAction::{Display, Input};
-    match method {
-        PairingMethod::JustWorks => "JustWorks",
-        PairingMethod::NumericComparison => "NumericComparison",
-        PairingMethod::OutOfBand => "OutOfBand",
-        PairingMethod::PassKeyEntry {
-            central,
-            peripheral,
-        } => match (central, peripheral) {
-            (Display, Input) => "PassKeyEntry:CentralDisplays",
-            (Input, Display) => "PassKeyEntry:PeripheralDisplays",
-            (Input, Input) => "PassKeyEntry:BothInput",
-            (Display, Display) => "PassKeyEntry:BothDisplay",
-        },
-    }
 }
 
 fn event_part(event: &ConnectionEvent, seen: &Seen) -> String {

@@ -5,7 +5,8 @@ use crate::runs::calls::{answer_record, timeout_record, Call, Input, Opening, Su
 use crate::runs::coverage::{input_name, Coverage};
 use crate::runs::dice::Dice;
 use crate::runs::known::{honest, known, start_refusal, Mark, Says};
-use crate::runs::lines::{method_name, Parts, Seen};
+use crate::methods::method_name;
+use crate::runs::lines::{Parts, Seen};
 use crate::runs::opening::{above_range, opening, outbox, passkey, sides, Plan};
 use crate::runs::pad::{any_oob, Pad};
 use crate::runs::twin::Twin;
@@ -255,7 +256,8 @@ impl<'a> Run<'a> {
         };
         if self.seen.finished() && !before.finished() {
             let answer = parts.answer.replace("taken", "Success");
-            self.coverage.end(method_name(self.seen.method), &answer);
+            let method = method_name(self.seen.method, "PassKeyEntry:");
+            self.coverage.end(&method, &answer);
         }
         let tag = mark.map(|mark| mark.tag);
         self.enter(call.record(), call.kind(), parts, tag);
