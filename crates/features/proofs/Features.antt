@@ -36,29 +36,29 @@ module _ (l : List ℕ) where
     decodes h g = rw (eq-eqb (length l) 6 n, le-leb (getD l 0 0) 4 h, le-leb (getD l 1 0) 1 g)
 
 -- Numbers and cases
-io-back : (io : IoCapabilities) → ioOf (ioNumber io) ≡ io
+pub io-back : (io : IoCapabilities) → ioOf (ioNumber io) ≡ io
 io-back DisplayOnly = refl
 io-back DisplayYesNo = refl
 io-back KeyboardOnly = refl
 io-back NoInputNoOutput = refl
 io-back KeyboardDisplay = refl
 
-io-small : (io : IoCapabilities) → ioNumber io ≤ 4
+pub io-small : (io : IoCapabilities) → ioNumber io ≤ 4
 io-small DisplayOnly = omega arith
 io-small DisplayYesNo = omega arith
 io-small KeyboardOnly = omega arith
 io-small NoInputNoOutput = omega arith
 io-small KeyboardDisplay = omega arith
 
-oob-back : (oob : UseOutOfBand) → oobOf (oobNumber oob) ≡ oob
+pub oob-back : (oob : UseOutOfBand) → oobOf (oobNumber oob) ≡ oob
 oob-back NotPresent = refl
 oob-back Present = refl
 
-oob-small : (oob : UseOutOfBand) → oobNumber oob ≤ 1
+pub oob-small : (oob : UseOutOfBand) → oobNumber oob ≤ 1
 oob-small NotPresent = omega arith
 oob-small Present = omega arith
 
-io-number : (n : ℕ) → n ≤ 4 → ioNumber (ioOf n) ≡ n
+pub io-number : (n : ℕ) → n ≤ 4 → ioNumber (ioOf n) ≡ n
 io-number zero h = refl
 io-number (suc zero) h = refl
 io-number (suc (suc zero)) h = refl
@@ -66,7 +66,7 @@ io-number (suc (suc (suc zero))) h = refl
 io-number (suc (suc (suc (suc zero)))) h = refl
 io-number (suc (suc (suc (suc (suc n))))) h = absurd (omega arith)
 
-oob-number : (n : ℕ) → n ≤ 1 → oobNumber (oobOf n) ≡ n
+pub oob-number : (n : ℕ) → n ≤ 1 → oobNumber (oobOf n) ≡ n
 oob-number zero h = refl
 oob-number (suc zero) h = refl
 oob-number (suc (suc n)) h = absurd (omega arith)

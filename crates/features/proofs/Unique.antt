@@ -8,6 +8,10 @@ use Rattle.features.proofs.PairingFeatures.man_in_the_middle.Reads as m
 use Rattle.features.proofs.PairingFeatures.secure_connection.Reads as secure-connection
 use Rattle.features.proofs.identity_key.Reads as identity-key
 use Rattle.features.proofs.auth_req.Reads as auth-req
+use Rattle.features.proofs.io_number.Reads as io-number
+use Rattle.features.proofs.io_of.Reads as io-of
+use Rattle.features.proofs.oob_number.Reads as oob-number
+use Rattle.features.proofs.oob_of.Reads as oob-of
 
 pub decode-unique : Unique decode.Post
 decode-unique κs a z z′ e e′ p q = only p q
@@ -32,3 +36,15 @@ identity-key-unique κs a z z′ e e′ p q = only p q
 
 pub auth-req-unique : Unique auth-req.Post
 auth-req-unique κs a z z′ e e′ p q = only p q
+
+pub io-number-unique : Unique io-number.Post
+io-number-unique κs a z z′ e e′ p q = only p q
+
+pub io-of-unique : Unique io-of.Post
+io-of-unique κs a z z′ e e′ p q = only p q
+
+pub oob-number-unique : Unique oob-number.Post
+oob-number-unique κs a z z′ e e′ p q = only p q
+
+pub oob-of-unique : Unique oob-of.Post
+oob-of-unique κs a z z′ e e′ p q = only p q

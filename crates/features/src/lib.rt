@@ -126,7 +126,8 @@ pub fn auth_req(bonding: bool, mitm: bool) -> u8
     }
 }
 
-fn io_number(io: IoCapabilities) -> u8
+// IO capabilities and the OOB data flag as numbers (Part H 3.5.1), and back. Any number from 4 on is KeyboardDisplay, any but 0 Present.
+pub fn io_number(io: IoCapabilities) -> u8
     ensures { λ r. ⌜ r ≡ ioNumber io ⌝ }
 {
     match io {
@@ -138,7 +139,7 @@ fn io_number(io: IoCapabilities) -> u8
     }
 }
 
-fn io_of(number: u8) -> IoCapabilities
+pub fn io_of(number: u8) -> IoCapabilities
     ensures { λ r. ⌜ r ≡ ioOf number ⌝ }
 {
     if number == 0 {
@@ -156,7 +157,7 @@ fn io_of(number: u8) -> IoCapabilities
     IoCapabilities::KeyboardDisplay
 }
 
-fn oob_number(oob: UseOutOfBand) -> u8
+pub fn oob_number(oob: UseOutOfBand) -> u8
     ensures { λ r. ⌜ r ≡ oobNumber oob ⌝ }
 {
     match oob {
@@ -165,7 +166,7 @@ fn oob_number(oob: UseOutOfBand) -> u8
     }
 }
 
-fn oob_of(number: u8) -> UseOutOfBand
+pub fn oob_of(number: u8) -> UseOutOfBand
     ensures { λ r. ⌜ r ≡ oobOf number ⌝ }
 {
     if number == 0 {

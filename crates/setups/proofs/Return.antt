@@ -12,11 +12,8 @@ use Rattle.address.specs.declared.Address.{Address}
 use Rattle.address.specs.declared.AddressKind.{AddressKind}
 use Rattle.address.specs.declared.AddressKind.the-variants.{Public, Random}
 use Rattle.address.specs.Identity.{kindNumber}
-use Rattle.features.specs.declared.IoCapabilities.{IoCapabilities}
-use Rattle.features.specs.declared.IoCapabilities.the-variants.{DisplayOnly, DisplayYesNo, KeyboardOnly, NoInputNoOutput, KeyboardDisplay}
-use Rattle.features.specs.declared.UseOutOfBand.{UseOutOfBand}
-use Rattle.features.specs.declared.UseOutOfBand.the-variants.{NotPresent, Present}
-use Rattle.features.specs.Features.{ioNumber, ioOf, oobNumber, oobOf}
+use Rattle.features.specs.Features.{ioNumber, oobNumber}
+use Rattle.features.proofs.Features.{io-back, io-small, io-number, oob-back, oob-small, oob-number}
 use Rattle.method.specs.declared.SecurityLevel.{SecurityLevel}
 use Rattle.method.specs.declared.SecurityLevel.the-variants.{NoEncryption, Encrypted, EncryptedAuthenticated}
 use Rattle.machine.specs.declared.Configured.{Configured}
@@ -62,41 +59,6 @@ level-number zero h = refl
 level-number (suc zero) h = refl
 level-number (suc (suc zero)) h = refl
 level-number (suc (suc (suc n))) h = absurd (omega arith)
-
-io-back : (io : IoCapabilities) → ioOf (ioNumber io) ≡ io
-io-back DisplayOnly = refl
-io-back DisplayYesNo = refl
-io-back KeyboardOnly = refl
-io-back NoInputNoOutput = refl
-io-back KeyboardDisplay = refl
-
-io-small : (io : IoCapabilities) → ioNumber io ≤ 4
-io-small DisplayOnly = omega arith
-io-small DisplayYesNo = omega arith
-io-small KeyboardOnly = omega arith
-io-small NoInputNoOutput = omega arith
-io-small KeyboardDisplay = omega arith
-
-io-number : (n : ℕ) → n ≤ 4 → ioNumber (ioOf n) ≡ n
-io-number zero h = refl
-io-number (suc zero) h = refl
-io-number (suc (suc zero)) h = refl
-io-number (suc (suc (suc zero))) h = refl
-io-number (suc (suc (suc (suc zero)))) h = refl
-io-number (suc (suc (suc (suc (suc n))))) h = absurd (omega arith)
-
-oob-back : (oob : UseOutOfBand) → oobOf (oobNumber oob) ≡ oob
-oob-back NotPresent = refl
-oob-back Present = refl
-
-oob-small : (oob : UseOutOfBand) → oobNumber oob ≤ 1
-oob-small NotPresent = omega arith
-oob-small Present = omega arith
-
-oob-number : (n : ℕ) → n ≤ 1 → oobNumber (oobOf n) ≡ n
-oob-number zero h = refl
-oob-number (suc zero) h = refl
-oob-number (suc (suc n)) h = absurd (omega arith)
 
 kind-back : (k : AddressKind) → kindOf (kindNumber k) ≡ k
 kind-back Public = refl

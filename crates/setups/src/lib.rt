@@ -2,8 +2,6 @@
 // payload can carry.
 use address::Address;
 use address::AddressKind;
-use features::IoCapabilities;
-use features::UseOutOfBand;
 use machine::Bond;
 use machine::Configured;
 use machine::MaybeBond;
@@ -14,7 +12,6 @@ ghost use mathlib.Core.List.{_++_};
 ghost use Prim.Native.Nat.{_≤_, _<_};
 ghost use lib.ListN.{length, getD, take};
 ghost use Rattle.octets.specs.Write.{Wrote};
-ghost use Rattle.features.specs.Features.{ioNumber, ioOf, oobNumber, oobOf};
 ghost use Rattle.fields.specs.Fields.{numberAt, join, Placed};
 ghost use Rattle.setups.specs.Setup.{
   addressOctets,
@@ -135,8 +132,8 @@ fn setup_of(p: &[u8]) -> Setup
     ensures { λ r. ⌜ r ≡ setupAt (now (p .entry)) ⌝ }
 {
     Setup {
-        io: io_of(fields::byte(p, 3)),
-        oob: oob_of(fields::byte(p, 4)),
+        io: features::io_of(fields::byte(p, 3)),
+        oob: features::oob_of(fields::byte(p, 4)),
         bonding: fields::byte(p, 5) == 1,
         passkey: configured_of(p),
         pkbx: fields::thirty_two(p, 11),
@@ -197,8 +194,8 @@ fn setup_head(call: SetupCall) -> [u8; 11]
         start_number(start),
         outbox[0],
         outbox[1],
-        io_number(io),
-        oob_number(oob),
+        features::io_number(io),
+        features::oob_number(oob),
         fields::flag(setup.bonding),
         configured_number(passkey),
         digits[0],
@@ -295,54 +292,6 @@ fn start_of(number: u8) -> StartKind
         return StartKind::ByUser;
     }
     StartKind::NotByUser
-}
-
-fn io_number(io: IoCapabilities) -> u8
-    ensures { λ r. ⌜ r ≡ ioNumber io ⌝ }
-{
-    match io {
-        IoCapabilities::DisplayOnly => 0,
-        IoCapabilities::DisplayYesNo => 1,
-        IoCapabilities::KeyboardOnly => 2,
-        IoCapabilities::NoInputNoOutput => 3,
-        IoCapabilities::KeyboardDisplay => 4,
-    }
-}
-
-fn io_of(number: u8) -> IoCapabilities
-    ensures { λ r. ⌜ r ≡ ioOf number ⌝ }
-{
-    if number == 0 {
-        return IoCapabilities::DisplayOnly;
-    }
-    if number == 1 {
-        return IoCapabilities::DisplayYesNo;
-    }
-    if number == 2 {
-        return IoCapabilities::KeyboardOnly;
-    }
-    if number == 3 {
-        return IoCapabilities::NoInputNoOutput;
-    }
-    IoCapabilities::KeyboardDisplay
-}
-
-fn oob_number(oob: UseOutOfBand) -> u8
-    ensures { λ r. ⌜ r ≡ oobNumber oob ⌝ }
-{
-    match oob {
-        UseOutOfBand::NotPresent => 0,
-        UseOutOfBand::Present => 1,
-    }
-}
-
-fn oob_of(number: u8) -> UseOutOfBand
-    ensures { λ r. ⌜ r ≡ oobOf number ⌝ }
-{
-    if number == 0 {
-        return UseOutOfBand::NotPresent;
-    }
-    UseOutOfBand::Present
 }
 
 fn address_kind_of(number: u8) -> AddressKind
