@@ -1,31 +1,48 @@
--- The front of a call: the refusals in their order, and then the input. Assumes nothing.
+-- The front of a call: the gate, and then the input. Assumes nothing.
 use mathlib.Core.Path.{_≡_}
 use mathlib.Core.List.{List}
-use mathlib.Core.Bool.{true, false}
+use mathlib.Core.Bool.{Bool, true, false}
 use Prim.Native.Nat.{ℕ, _<_, _≤_}
 use borrow.Author.Tests.{lt-ltb, le-ltb}
+use Rattle.machine.specs.declared.Refusal.{Refusal}
 use Rattle.machine.specs.declared.Refusal.the-variants as R
 use Rattle.machine.specs.declared.State.{State}
 use Rattle.machine.specs.declared.Step.{Step}
 use Rattle.machine.specs.Outcome.{Met, Quiet, said, refused, finishedPhase}
 use Rattle.machine.specs.Step.{Call, ranged, taking, front, step}
 use Rattle.machine.proofs.Outcome.{met-refused}
-use Rattle.machine.proofs.Refusals.{taken-on}
+use Rattle.front.specs.declared.Gate.{Gate}
+use Rattle.front.specs.declared.Gate.the-variants as G
+use Rattle.front.specs.Calls.{behind, Admits}
 
-module _ (m : State) (c : Call) (r : Step) where
-  pub at-finished : finishedPhase (m .phase) ≡ true → r ≡ said (refused m R.Finished) 0 → Quiet (step m c) r
-  unfolding step front
-  at-finished f e out = rw f (met-refused m R.Finished r e out)
+-- The gate, by the tests in their order
+module _ (m : State) (room : ℕ) (ok : Bool) where
+  pub at-finished : finishedPhase (m .phase) ≡ true → Admits m room ok (G.Shut R.Finished)
+  unfolding front
+  at-finished f o = rw f
 
   module _ (f : finishedPhase (m .phase) ≡ false) where
-    pub at-short : c .room < 90 → r ≡ said (refused m R.OutboxShort) 0 → Quiet (step m c) r
-    unfolding step front
-    at-short h e out = rw (f, lt-ltb (c .room) 90 h) (met-refused m R.OutboxShort r e out)
+    pub at-short : room < 90 → Admits m room ok (G.Shut R.OutboxShort)
+    unfolding front
+    at-short h o = rw (f, lt-ltb room 90 h)
 
-    module _ (h : 90 ≤ c .room) where
-      pub at-range : ranged (c .input) ≡ false → r ≡ said (refused m R.PasskeyRange) 0 → Quiet (step m c) r
-      unfolding step front
-      at-range k e out = rw (f, le-ltb (c .room) 90 h, k) (met-refused m R.PasskeyRange r e out)
+    module _ (h : 90 ≤ room) where
+      pub at-range : ok ≡ false → Admits m room ok (G.Shut R.PasskeyRange)
+      unfolding front
+      at-range k o = rw (f, le-ltb room 90 h, k)
 
-      pub at-input : {before after : List ℕ} → ranged (c .input) ≡ true → Met (taking m (c .input) (c .supplied)) r before after → Met (step m c) r before after
-      at-input k e = rw (taken-on m c f h k) e
+      pub at-input : ok ≡ true → Admits m room ok G.Open
+      unfolding front
+      at-input k o = rw (f, le-ltb room 90 h, k)
+
+-- A call through a gate
+module _ (m : State) (c : Call) (r : Step) (g : Gate) (e : Admits m (c .room) (ranged (c .input)) g) where
+  by-gate : step m c ≡ behind g m (taking m (c .input) (c .supplied))
+  unfolding step
+  by-gate = e (taking m (c .input) (c .supplied))
+
+  pub at-shut : (x : Refusal) → g ≡ G.Shut x → r ≡ said (refused m x) 0 → Quiet (step m c) r
+  at-shut x d h out = rw (by-gate, d) (met-refused m x r h out)
+
+  pub at-open : {before after : List ℕ} → g ≡ G.Open → Met (taking m (c .input) (c .supplied)) r before after → Met (step m c) r before after
+  at-open d h = rw (by-gate, d) h

@@ -9,28 +9,27 @@ use machine::Step;
 use machine::Supplied;
 ghost use lib.ListN.{length};
 ghost use Rattle.machine.specs.Outcome.{Met};
-ghost use Rattle.machine.specs.Step.{onCommand, onEvent, step};
-ghost use Rattle.front.specs.Calls.{commandCall, eventCall};
+ghost use Rattle.machine.specs.Step.{command, event, onCommand, onEvent, taking, step};
+ghost use Rattle.front.specs.Calls.{commandCall, eventCall, Admits};
 
-// A command: the refusals in their order, an empty command, and then the step of the phase.
+// Whether a call is let in, or why it is refused.
+pub enum Gate {
+    Open,
+    Shut(Refusal),
+}
+
+// A command: the refusals, and then the step of the phase.
 pub fn on_command(state: State, cmd: &[u8], supplied: Supplied, out: &mut [u8]) -> Step
     ensures { λ r. ⌜ Met (step state (commandCall (now (cmd .entry)) supplied (length (now (out .entry))))) r (now (out .entry)) (now (out .exit)) ⌝ }
 {
-    if states::finished(state) {
-        return outcome::refused(state, Refusal::Finished);
+    let entry = admit(state, out.len(), true);
+    match entry {
+        Gate::Shut(refusal) => outcome::refused(state, refusal),
+        Gate::Open => take_command(state, cmd, supplied, out),
     }
-    if out.len() < 90 {
-        return outcome::refused(state, Refusal::OutboxShort);
-    }
-    if cmd.len() == 0 {
-        return outcome::failed(state, Failure::InvalidParameters);
-    }
-    let phase = state.phase;
-    let code = cmd[0];
-    by_command(phase, state, code, &cmd[1..], supplied, out)
 }
 
-// An event: the refusals in their order, and then the step of the phase.
+// An event: the refusals, and then the step of the phase.
 pub fn on_event(
     state: State,
     came: Event,
@@ -40,17 +39,53 @@ pub fn on_event(
 ) -> Step
     ensures { λ r. ⌜ Met (step state (eventCall came values supplied (length (now (out .entry))))) r (now (out .entry)) (now (out .exit)) ⌝ }
 {
+    let entry = admit(state, out.len(), states::in_range(came, values));
+    match entry {
+        Gate::Shut(refusal) => outcome::refused(state, refusal),
+        Gate::Open => take_event(state, came, values, supplied, out),
+    }
+}
+
+// R1, R2 and R3, in this order; `ranged` says whether an event's passkey is in range.
+fn admit(state: State, room: usize, ranged: bool) -> Gate
+    ensures { λ r. ⌜ Admits state room ranged r ⌝ }
+{
     if states::finished(state) {
-        return outcome::refused(state, Refusal::Finished);
+        return Gate::Shut(Refusal::Finished);
     }
-    if out.len() < 90 {
-        return outcome::refused(state, Refusal::OutboxShort);
+    if room < 90 {
+        return Gate::Shut(Refusal::OutboxShort);
     }
-    if states::in_range(came, values) {
-        let phase = state.phase;
-        return by_event(phase, state, came, values, supplied, out);
+    if ranged {
+        return Gate::Open;
     }
-    outcome::refused(state, Refusal::PasskeyRange)
+    Gate::Shut(Refusal::PasskeyRange)
+}
+
+// A command that is taken: an empty one fails.
+fn take_command(state: State, cmd: &[u8], supplied: Supplied, out: &mut [u8]) -> Step
+    ensures { λ r. ⌜ Met (taking state (command (now (cmd .entry))) supplied) r (now (out .entry)) (now (out .exit)) ⌝ }
+{
+    if cmd.len() == 0 {
+        return outcome::failed(state, Failure::InvalidParameters);
+    }
+    let phase = state.phase;
+    let code = cmd[0];
+    by_command(phase, state, code, &cmd[1..], supplied, out)
+}
+
+// An event that is taken.
+fn take_event(
+    state: State,
+    came: Event,
+    values: OobData,
+    supplied: Supplied,
+    out: &mut [u8],
+) -> Step
+    ensures { λ r. ⌜ Met (taking state (event came values) supplied) r (now (out .entry)) (now (out .exit)) ⌝ }
+{
+    let phase = state.phase;
+    by_event(phase, state, came, values, supplied, out)
 }
 
 fn by_command(

@@ -21,12 +21,12 @@ use Rattle.machine.specs.declared.State.{State}
 use Rattle.machine.specs.declared.Supplied.{Supplied}
 use Rattle.machine.specs.Outcome.{Outcome, need, expect, finishedPhase}
 use Rattle.machine.specs.Hold.{holding}
-use Rattle.machine.specs.Request.{requestOf}
+use Rattle.machine.specs.Request.{requestOf, responding}
 use Rattle.machine.specs.Exchange.{begins, shown, showing, comparing, keyOf}
 use Rattle.machine.specs.Numeric.{compares}
 use Rattle.machine.specs.Step.{Call, command, event, step, front, onCommand, onEvent, ranged}
 use Rattle.machine.specs.Passed.{Key, Shows, configured, drawn}
-use Rattle.machine.specs.Edge.{Edge, exchanged, responding, isJustWorks, isComparison, refuses, fails, request, bondedKeys, bondedDone, keyOob, keyShown, keyTyped, keyCompared, worksRandom, comparedRandom, heldCheck, yes, yesChecked, heldConfirm, typed, typedHeld, confirm, random, oobData, oobRandom, check, linkKeys, linkDone, irk, address}
+use Rattle.machine.specs.Edge.{Edge, exchanged, isJustWorks, isComparison, refuses, fails, request, bondedKeys, bondedDone, keyOob, keyShown, keyTyped, keyCompared, worksRandom, comparedRandom, heldCheck, yes, yesChecked, heldConfirm, typed, typedHeld, confirm, random, oobData, oobRandom, check, linkKeys, linkDone, irk, address}
 use Rattle.machine.proofs.Calls.{clash, Acceptable, accept-complete, identity-complete}
 
 -- an end that is neither a refusal nor a failure

@@ -14,7 +14,7 @@ use Rattle.method.specs.declared.PassKeyEntryAction.{PassKeyEntryAction}
 use Rattle.method.specs.declared.PassKeyEntryAction.the-variants as W
 use Rattle.method.specs.Method.{set}
 use Rattle.rounds.specs.Rounds.{afterOf}
-use Rattle.frames.specs.Frames.{pairingResponse, pairingRandom, dhkeyCheck}
+use Rattle.frames.specs.Frames.{pairingRandom}
 use Rattle.machine.specs.declared.ActionKind.the-variants as K
 use Rattle.machine.specs.declared.Answer.the-variants as A
 use Rattle.machine.specs.declared.ConnectionEvent.{ConnectionEvent}
@@ -29,7 +29,7 @@ use Rattle.machine.specs.declared.State.{State}
 use Rattle.machine.specs.declared.Supplied.{Supplied}
 use Rattle.machine.specs.Outcome.{Outcome, at, to, bonded, refused, failing, goes, succeeds, finishedPhase, noAction}
 use Rattle.machine.specs.Secrets.{fresh, setNa, setNonces, setOob, setHeld, setPasskey}
-use Rattle.machine.specs.Request.{localFeatures, lost, requested}
+use Rattle.machine.specs.Request.{responding}
 use Rattle.machine.specs.Exchange.{ourKey, comparing, showing}
 use Rattle.machine.specs.Check.{checked}
 use Rattle.machine.specs.Passkey.{confirming, waits}
@@ -38,11 +38,6 @@ use Rattle.machine.specs.Keys.{ourIdentity, withIrk, addressed}
 use Rattle.machine.specs.Step.{Call, event}
 use Rattle.machine.specs.Passed.{Command, Raised, Request, Key, Shows, Typed, Matching}
 use Rattle.machine.specs.Completed.{Identity}
-
--- an acceptable request's response
-abbrev pub responding : State → PairingFeatures → Outcome
-responding m f =
-    record { next = requested m f; frames = pairingResponse (localFeatures (m .setup) f); first = lost m; second = E.Nothing; action = noAction; answer = A.Taken }
 
 -- the secrets behind the peer's key
 abbrev pub exchanged : List ℕ → Call → Secrets

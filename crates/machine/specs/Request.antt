@@ -74,10 +74,14 @@ requested m f =
       peer = m .peer;
     }
 
+-- an acceptable request's response
+abbrev pub responding : State → PairingFeatures → Outcome
+responding m f =
+    record { next = requested m f; frames = pairingResponse (localFeatures (m .setup) f); first = lost m; second = E.Nothing; action = noAction; answer = A.Taken }
+
 abbrev pub accepting : State → Acceptance → Outcome
 accepting m (Rejected f) = failing m (lost m) f
-accepting m (Accepted f) =
-    record { next = requested m f; frames = pairingResponse (localFeatures (m .setup) f); first = lost m; second = E.Nothing; action = noAction; answer = A.Taken }
+accepting m (Accepted f) = responding m f
 
 -- a command in WaitingPairingRequest
 abbrev pub requestOf : State → ℕ → List ℕ → Outcome

@@ -1,7 +1,6 @@
 // Replays calls: reads the records of docs/CALLS.md from standard input, makes each call on the responder, and writes its line before it
 // waits for the next record.
 mod lines;
-mod names;
 mod parts;
 mod records;
 mod standing;
@@ -10,11 +9,10 @@ mod text;
 ghost use mathlib.Core.Path.{_≡_};
 
 // Walks through the whole input. No contract can speak of what is read and written: the lines are tested, not proved. The longest
-// payload that a header can announce has 65,535 octets; the longest line has fewer than 1,024.
+// payload that a header can announce has 65,535 octets.
 pub fn walk()
     ensures { λ r. ⌜ r ≡ tt ⌝ }
 {
     let mut payload = io::large_buffer();
-    let mut line = io::buffer();
-    records::replay(&mut payload, &mut line);
+    records::replay(&mut payload);
 }

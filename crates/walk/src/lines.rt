@@ -1,14 +1,12 @@
-// Whole lines, one for each kind of record, and the line that says where the walk stops. Each answers the line's length.
-use crate::names;
+// Whole lines, one for each kind of record, and the line that says where the walk stops.
 use crate::parts;
+use crate::standing::View;
+use crate::standing::seen;
 use crate::standing::standing;
-use crate::text::decimal;
+use crate::text::Line;
+use crate::text::empty;
 use crate::text::least;
-use crate::text::name;
-use crate::text::word;
-use machine::Answer;
 use machine::Question;
-use responder::Responder;
 use responder::Stepped;
 use wrapper::Begun;
 use wrapper::Start;
@@ -21,121 +19,91 @@ pub(crate) enum Fault {
     Misfit,
 }
 
-pub(crate) fn setup(out: &mut [u8], number: u64, begun: Begun, outbox: &[u8]) -> usize {
-    let responder = begun.responder;
+pub(crate) fn setup(number: u64, begun: Begun, outbox: [u8; 512]) -> Line {
     let answer = begun.answer;
-    let first = head(out, number, b" setup answer=");
-    let second = start(out, first, answer);
-    let third = frames(out, second, outbox, begun.sent);
-    let fourth = word(out, third, b" events=- action=-");
-    let fifth = standing(out, fourth, responder);
-    word(out, fifth, b" question=-\n")
+    let responder = begun.responder;
+    let answered = start(head(number, b" setup answer="), answer);
+    let sent = frames(answered, outbox, begun.sent).word(b" events=- action=-");
+    standing(sent, seen(responder)).word(b" question=-\n")
 }
 
-pub(crate) fn command(
-    out: &mut [u8],
-    number: u64,
-    stepped: Stepped,
-    outbox: &[u8],
-    asked: Question,
-) -> usize {
-    let place = head(out, number, b" command answer=");
-    call(out, place, stepped, outbox, asked)
+pub(crate) fn command(number: u64, stepped: Stepped, outbox: [u8; 512], asked: Question) -> Line {
+    call(head(number, b" command answer="), stepped, outbox, asked)
 }
 
-pub(crate) fn event(
-    out: &mut [u8],
-    number: u64,
-    stepped: Stepped,
-    outbox: &[u8],
-    asked: Question,
-) -> usize {
-    let place = head(out, number, b" event answer=");
-    call(out, place, stepped, outbox, asked)
+pub(crate) fn event(number: u64, stepped: Stepped, outbox: [u8; 512], asked: Question) -> Line {
+    call(head(number, b" event answer="), stepped, outbox, asked)
 }
 
-pub(crate) fn timeout(out: &mut [u8], number: u64, responder: Responder) -> usize {
-    let place = head(out, number, b" timeout answer=-");
-    quiet(out, place, responder)
+pub(crate) fn timeout(number: u64, view: View) -> Line {
+    quiet(head(number, b" timeout answer=-"), view)
 }
 
 // An answer that was seen, and whether it is the one that was given.
-pub(crate) fn answer(out: &mut [u8], number: u64, same: bool, responder: Responder) -> usize {
-    let first = head(out, number, b" answer answer=");
-    let second = verdict(out, first, same);
-    quiet(out, second, responder)
+pub(crate) fn answer(number: u64, same: bool, view: View) -> Line {
+    quiet(verdict(head(number, b" answer answer="), same), view)
 }
 
-pub(crate) fn stop(out: &mut [u8], number: u64, why: Fault, offset: u64) -> usize {
-    let first = head(out, number, b" stop ");
-    let second = reason(out, first, why);
-    let third = word(out, second, b" at ");
-    let fourth = decimal(out, third, offset);
-    word(out, fourth, b"\n")
+pub(crate) fn stop(number: u64, why: Fault, offset: u64) -> Line {
+    let named = reason(head(number, b" stop "), why);
+    named.word(b" at ").decimal(offset).word(b"\n")
 }
 
-fn head(out: &mut [u8], number: u64, kind: &[u8]) -> usize {
-    let place = decimal(out, 0, number);
-    word(out, place, kind)
+fn head(number: u64, kind: &[u8]) -> Line {
+    empty().decimal(number).word(kind)
 }
 
 // What stands behind `answer=` in the line of a command or an event.
-fn call(out: &mut [u8], at: usize, stepped: Stepped, outbox: &[u8], asked: Question) -> usize {
+fn call(line: Line, stepped: Stepped, outbox: [u8; 512], asked: Question) -> Line {
     let responder = stepped.responder;
-    let first = given_back(out, at, stepped, outbox);
-    let second = standing(out, first, responder);
-    let third = word(out, second, b" question=");
-    let fourth = parts::question(out, third, asked);
-    word(out, fourth, b"\n")
+    let given = given_back(line, stepped, outbox);
+    let stood = standing(given, seen(responder)).word(b" question=");
+    parts::question(stood, asked).word(b"\n")
 }
 
 // Answer, frames, events and action.
-fn given_back(out: &mut [u8], at: usize, stepped: Stepped, outbox: &[u8]) -> usize {
+fn given_back(line: Line, stepped: Stepped, outbox: [u8; 512]) -> Line {
     let answer = stepped.answer;
-    let one = stepped.first;
-    let two = stepped.second;
+    let first = stepped.first;
+    let second = stepped.second;
     let action = stepped.action;
-    let first = parts::answer(out, at, answer);
-    let second = frames(out, first, outbox, stepped.sent);
-    let third = word(out, second, b" events=");
-    let fourth = parts::events(out, third, one, two);
-    let fifth = word(out, fourth, b" action=");
-    parts::action(out, fifth, action)
+    let answered = parts::answer(line, answer);
+    let sent = frames(answered, outbox, stepped.sent);
+    let told = parts::events(sent.word(b" events="), first, second);
+    parts::action(told.word(b" action="), action)
 }
 
-fn start(out: &mut [u8], at: usize, answer: Start) -> usize {
+fn start(line: Line, answer: Start) -> Line {
     match answer {
-        Start::Started => word(out, at, b"started"),
-        Start::Refused(refusal) => name(out, at, &names::refusal(refusal)),
+        Start::Started => line.word(b"started"),
+        Start::Refused(refusal) => line.name(names::refusal(refusal)),
     }
 }
 
-fn verdict(out: &mut [u8], at: usize, same: bool) -> usize {
+fn verdict(line: Line, same: bool) -> Line {
     if same {
-        return word(out, at, b"same");
+        return line.word(b"same");
     }
-    word(out, at, b"differs")
+    line.word(b"differs")
 }
 
 // The frames in the first `sent` octets of the outbox.
-fn frames(out: &mut [u8], at: usize, outbox: &[u8], sent: usize) -> usize {
-    let place = word(out, at, b" frames=");
-    let n = least(sent, outbox.len());
-    parts::frames(out, place, &outbox[0..n])
+fn frames(line: Line, outbox: [u8; 512], sent: usize) -> Line {
+    let n = least(sent, 512);
+    parts::frames(line.word(b" frames="), &outbox[0..n])
 }
 
 // The rest of a line where nothing was called.
-fn quiet(out: &mut [u8], at: usize, responder: Responder) -> usize {
-    let first = word(out, at, b" frames=- events=- action=-");
-    let second = standing(out, first, responder);
-    word(out, second, b" question=-\n")
+fn quiet(line: Line, view: View) -> Line {
+    let nothing = line.word(b" frames=- events=- action=-");
+    standing(nothing, view).word(b" question=-\n")
 }
 
-fn reason(out: &mut [u8], at: usize, why: Fault) -> usize {
+fn reason(line: Line, why: Fault) -> Line {
     match why {
-        Fault::Incomplete => word(out, at, b"1 incomplete"),
-        Fault::UnknownKind => word(out, at, b"2 unknown-kind"),
-        Fault::NoSetup => word(out, at, b"3 no-setup"),
-        Fault::Misfit => word(out, at, b"5 misfit"),
+        Fault::Incomplete => line.word(b"1 incomplete"),
+        Fault::UnknownKind => line.word(b"2 unknown-kind"),
+        Fault::NoSetup => line.word(b"3 no-setup"),
+        Fault::Misfit => line.word(b"5 misfit"),
     }
 }

@@ -1,10 +1,5 @@
 // The parts of a line that say what a call gave back: answer, frames, events, action and question.
-use crate::names;
-use crate::text::hex;
-use crate::text::name;
-use crate::text::number;
-use crate::text::value;
-use crate::text::word;
+use crate::text::Line;
 use address::Address;
 use machine::Action;
 use machine::ActionKind;
@@ -17,31 +12,27 @@ use method::SecurityLevel;
 ghost use mathlib.Core.Path.{_≡_};
 ghost use Rattle.walk.specs.Frames.{frameEnd};
 
-pub(crate) fn answer(out: &mut [u8], at: usize, answer: Answer) -> usize {
+pub(crate) fn answer(line: Line, answer: Answer) -> Line {
     match answer {
-        Answer::Taken => word(out, at, b"taken"),
-        Answer::Failed(failure) => {
-            let place = word(out, at, b"failed");
-            name(out, place, &names::failure(failure))
-        }
-        Answer::Refused(refusal) => name(out, at, &names::refusal(refusal)),
+        Answer::Taken => line.word(b"taken"),
+        Answer::Failed(failure) => line.word(b"failed").name(names::failure(failure)),
+        Answer::Refused(refusal) => line.name(names::refusal(refusal)),
     }
 }
 
 // The frames among the octets sent.
-pub(crate) fn frames(out: &mut [u8], at: usize, sent: &[u8]) -> usize {
+pub(crate) fn frames(line: Line, sent: &[u8]) -> Line {
     if sent.len() == 0 {
-        return word(out, at, b"-");
+        return line.word(b"-");
     }
-    let mut place = at;
+    let mut written = line;
     let mut begin = 0;
     while begin < sent.len() {
         let end = begin + frame_end(&sent[begin..]);
-        let next = comma(out, place, begin);
-        place = hex(out, next, &sent[begin..end]);
+        written = frame(written, begin, &sent[begin..end]);
         begin = end;
     }
-    place
+    written
 }
 
 // Where the first frame ends: its header has four octets, the first two of which count what is behind it.
@@ -56,12 +47,12 @@ fn frame_end(sent: &[u8]) -> usize
     if end < n { end } else { n }
 }
 
-// Nothing before the first frame.
-fn comma(out: &mut [u8], at: usize, begin: usize) -> usize {
+// A frame that begins at this place, with a comma before each but the first.
+fn frame(line: Line, begin: usize, octets: &[u8]) -> Line {
     if begin == 0 {
-        return at;
+        return line.hex(octets);
     }
-    word(out, at, b",")
+    line.word(b",").hex(octets)
 }
 
 fn wide(octet: u8) -> usize
@@ -71,173 +62,144 @@ fn wide(octet: u8) -> usize
 }
 
 // The user's events in order: the first is BondLost or nothing.
-pub(crate) fn events(
-    out: &mut [u8],
-    at: usize,
-    first: ConnectionEvent,
-    second: ConnectionEvent,
-) -> usize {
-    let one = event(out, at, first);
-    if one == at {
-        return only_event(out, at, second);
+pub(crate) fn events(line: Line, first: ConnectionEvent, second: ConnectionEvent) -> Line {
+    let one = event(line, first);
+    if one.length == line.length {
+        return only_event(line, second);
     }
-    let comma = word(out, one, b",");
-    let two = event(out, comma, second);
-    if two == comma {
+    let comma = one.word(b",");
+    let two = event(comma, second);
+    if two.length == comma.length {
         return one;
     }
     two
 }
 
-fn only_event(out: &mut [u8], at: usize, told: ConnectionEvent) -> usize {
-    let place = event(out, at, told);
-    if place == at {
-        return word(out, at, b"-");
+fn only_event(line: Line, told: ConnectionEvent) -> Line {
+    let written = event(line, told);
+    if written.length == line.length {
+        return line.word(b"-");
     }
-    place
+    written
 }
 
 // Nothing is written for no event.
-fn event(out: &mut [u8], at: usize, told: ConnectionEvent) -> usize {
-    let place = name(out, at, &names::event(told));
+fn event(line: Line, told: ConnectionEvent) -> Line {
+    let named = line.name(names::event(told));
     match told {
-        ConnectionEvent::Nothing => place,
-        ConnectionEvent::BondLost => place,
-        ConnectionEvent::OobRequest => place,
-        ConnectionEvent::PassKeyDisplay(passkey) => number(out, place, passkey),
-        ConnectionEvent::PassKeyInput => place,
-        ConnectionEvent::PassKeyConfirm(shown) => number(out, place, shown),
-        ConnectionEvent::PairingComplete(level, reported) => complete(out, place, level, reported),
-        ConnectionEvent::PairingFailed(failure) => name(out, place, &names::failure(failure)),
+        ConnectionEvent::Nothing => named,
+        ConnectionEvent::BondLost => named,
+        ConnectionEvent::OobRequest => named,
+        ConnectionEvent::PassKeyDisplay(passkey) => named.number(passkey),
+        ConnectionEvent::PassKeyInput => named,
+        ConnectionEvent::PassKeyConfirm(shown) => named.number(shown),
+        ConnectionEvent::PairingComplete(level, reported) => complete(named, level, reported),
+        ConnectionEvent::PairingFailed(failure) => named.name(names::failure(failure)),
     }
 }
 
-fn complete(out: &mut [u8], at: usize, level: SecurityLevel, reported: bool) -> usize {
-    let first = word(out, at, b":");
-    let place = name(out, first, &names::level(level));
+fn complete(line: Line, level: SecurityLevel, reported: bool) -> Line {
+    let named = line.word(b":").name(names::level(level));
     if reported {
-        return word(out, place, b":bond");
+        return named.word(b":bond");
     }
-    word(out, place, b":-")
+    named.word(b":-")
 }
 
-pub(crate) fn action(out: &mut [u8], at: usize, action: Action) -> usize {
+pub(crate) fn action(line: Line, action: Action) -> Line {
     let kind = action.kind;
     let with = action.bond;
     match kind {
-        ActionKind::Nothing => word(out, at, b"-"),
-        ActionKind::EnableEncryption => {
-            let place = word(out, at, b"EnableEncryption:");
-            key(out, place, with)
-        }
-        ActionKind::StoreBond => {
-            let place = word(out, at, b"StoreBond:");
-            bond(out, place, with)
-        }
+        ActionKind::Nothing => line.word(b"-"),
+        ActionKind::EnableEncryption => key(line.word(b"EnableEncryption:"), with),
+        ActionKind::StoreBond => bond(line.word(b"StoreBond:"), with),
     }
 }
 
 // A bond's link key and level.
-fn key(out: &mut [u8], at: usize, bond: Bond) -> usize {
+fn key(line: Line, bond: Bond) -> Line {
     let ltk = bond.ltk;
     let level = bond.level;
-    let first = hex(out, at, &ltk);
-    let place = word(out, first, b":");
-    name(out, place, &names::level(level))
+    line.hex(&ltk).word(b":").name(names::level(level))
 }
 
-pub(crate) fn bond(out: &mut [u8], at: usize, bond: Bond) -> usize {
+pub(crate) fn bond(line: Line, bond: Bond) -> Line {
     let with = bond.address;
     let irk = bond.irk;
-    let first = key(out, at, bond);
-    let second = word(out, first, b":");
-    let third = address(out, second, with);
-    value(out, third, &irk)
+    let keyed = key(line, bond).word(b":");
+    address(keyed, with).value(&irk)
 }
 
-pub(crate) fn address(out: &mut [u8], at: usize, address: Address) -> usize {
+pub(crate) fn address(line: Line, address: Address) -> Line {
     let kind = address.kind;
     let octets = address.octets;
-    let first = hex(out, at, &[address::kind_number(kind)]);
-    hex(out, first, &octets)
+    line.hex(&[address::kind_number(kind)]).hex(&octets)
 }
 
 // A question with its arguments.
-pub(crate) fn question(out: &mut [u8], at: usize, asked: Question) -> usize {
+pub(crate) fn question(line: Line, asked: Question) -> Line {
     let kind = asked.kind;
-    let place = name(out, at, &names::question(kind));
+    let named = line.name(names::question(kind));
     match kind {
-        QuestionKind::Nothing => place,
-        QuestionKind::DH => coordinates(out, place, asked),
-        QuestionKind::F4 => commitment(out, place, asked),
-        QuestionKind::G2 => comparison(out, place, asked),
-        QuestionKind::F5 => derivation(out, place, asked),
-        QuestionKind::Ea => check_value(out, place, asked),
-        QuestionKind::Eb => check_value(out, place, asked),
+        QuestionKind::Nothing => named,
+        QuestionKind::DH => coordinates(named, asked),
+        QuestionKind::F4 => commitment(named, asked),
+        QuestionKind::G2 => comparison(named, asked),
+        QuestionKind::F5 => derivation(named, asked),
+        QuestionKind::Ea => check_value(named, asked),
+        QuestionKind::Eb => check_value(named, asked),
     }
 }
 
 // u and v.
-fn coordinates(out: &mut [u8], at: usize, asked: Question) -> usize {
+fn coordinates(line: Line, asked: Question) -> Line {
     let u = asked.u;
     let v = asked.v;
-    let place = value(out, at, &u);
-    value(out, place, &v)
+    line.value(&u).value(&v)
 }
 
 // f4's arguments.
-fn commitment(out: &mut [u8], at: usize, asked: Question) -> usize {
+fn commitment(line: Line, asked: Question) -> Line {
     let n1 = asked.n1;
-    let first = coordinates(out, at, asked);
-    let second = value(out, first, &n1);
-    value(out, second, &[asked.z])
+    coordinates(line, asked).value(&n1).value(&[asked.z])
 }
 
 // g2's arguments.
-fn comparison(out: &mut [u8], at: usize, asked: Question) -> usize {
-    let place = coordinates(out, at, asked);
-    nonces(out, place, asked)
+fn comparison(line: Line, asked: Question) -> Line {
+    nonces(coordinates(line, asked), asked)
 }
 
 // n1 and n2.
-fn nonces(out: &mut [u8], at: usize, asked: Question) -> usize {
+fn nonces(line: Line, asked: Question) -> Line {
     let n1 = asked.n1;
     let n2 = asked.n2;
-    let place = value(out, at, &n1);
-    value(out, place, &n2)
+    line.value(&n1).value(&n2)
 }
 
 // a1 and a2.
-fn addresses(out: &mut [u8], at: usize, asked: Question) -> usize {
+fn addresses(line: Line, asked: Question) -> Line {
     let a1 = asked.a1;
     let a2 = asked.a2;
-    let first = word(out, at, b":");
-    let second = address(out, first, a1);
-    let third = word(out, second, b":");
-    address(out, third, a2)
+    let first = address(line.word(b":"), a1);
+    address(first.word(b":"), a2)
 }
 
 // f5's arguments.
-fn derivation(out: &mut [u8], at: usize, asked: Question) -> usize {
+fn derivation(line: Line, asked: Question) -> Line {
     let w = asked.u;
-    let first = value(out, at, &w);
-    let second = nonces(out, first, asked);
-    addresses(out, second, asked)
+    addresses(nonces(line.value(&w), asked), asked)
 }
 
 // f6's arguments.
-fn check_value(out: &mut [u8], at: usize, asked: Question) -> usize {
+fn check_value(line: Line, asked: Question) -> Line {
     let key = asked.key;
-    let first = value(out, at, &key);
-    let second = nonces(out, first, asked);
-    let third = secret(out, second, asked);
-    addresses(out, third, asked)
+    let begun = nonces(line.value(&key), asked);
+    addresses(secret(begun, asked), asked)
 }
 
 // r and the IO capabilities.
-fn secret(out: &mut [u8], at: usize, asked: Question) -> usize {
+fn secret(line: Line, asked: Question) -> Line {
     let r = asked.r;
     let iocap = asked.iocap;
-    let place = value(out, at, &r);
-    value(out, place, &iocap)
+    line.value(&r).value(&iocap)
 }

@@ -1,6 +1,8 @@
 // The walk through the input: one record, one call, one line.
 use crate::lines;
 use crate::lines::Fault;
+use crate::standing::seen;
+use crate::text::Line;
 use crate::text::least;
 use calls::Call;
 use calls::EventCall;
@@ -9,6 +11,7 @@ use calls::ReadAnswer;
 use calls::SetupCall;
 use calls::StartKind;
 use machine::Answer;
+use machine::Setup;
 use responder::Responder;
 use responder::Stepped;
 use wrapper::Begun;
@@ -28,18 +31,42 @@ struct Walk {
     answer: Answer,
 }
 
+// What is next in the input: a call to be made, nothing, or what stops the walk.
+enum Next {
+    Setup,
+    Command,
+    Event,
+    Timeout,
+    Answer,
+    End,
+    Stop(Fault),
+}
+
+// What was read, and the length of its payload.
+struct Read {
+    next: Next,
+    size: usize,
+}
+
 impl Walk {
-    // The same walk behind a record with a payload of `size` octets. It goes on if the record's line was written.
-    fn next(self, written: bool, size: usize, responder: Responder, answer: Answer) -> Walk {
+    // Writes a record's line. The same walk behind the record, whose payload has `size` octets: it goes on if the line was written.
+    fn next(self, line: Line, size: usize, responder: Responder, answer: Answer) -> Walk {
         let header = std::num::wrapping_add_u64(self.offset, 4);
         Walk {
-            going: written,
+            going: write(line),
             begun: true,
             number: std::num::wrapping_add_u64(self.number, 1),
             offset: std::num::wrapping_add_u64(header, size as u64),
             responder,
             answer,
         }
+    }
+
+    // The walk behind a command or an event.
+    fn stepped(self, line: Line, size: usize, stepped: Stepped) -> Walk {
+        let responder = stepped.responder;
+        let answer = stepped.answer;
+        self.next(line, size, responder, answer)
     }
 
     fn ended(self) -> Walk {
@@ -49,29 +76,25 @@ impl Walk {
     }
 
     // The record can't be read: its line says why and where.
-    fn stopped(self, why: Fault, line: &mut [u8]) -> Walk {
-        let n = lines::stop(line, self.number, why, self.offset);
-        write(line, n);
+    fn stopped(self, why: Fault) -> Walk {
+        write(lines::stop(self.number, why, self.offset));
         self.ended()
     }
 }
 
 // A proved loop has to end, and nothing says that the input does: so turns are counted down from a number that no run uses up.
-pub(crate) fn replay(payload: &mut [u8], line: &mut [u8]) {
+pub(crate) fn replay(payload: &mut [u8]) {
     let mut walk = start();
     let mut turns = u64::MAX;
     while turns > 0 && walk.going {
-        walk = record(walk, payload, line);
+        walk = turn(walk, payload);
         turns -= 1;
     }
 }
 
 // No call is made on this machine: a setup comes first.
 fn start() -> Walk {
-    let read = calls::read_setup(b"");
-    let call = read.call;
-    let setup = call.setup;
-    let begun = wrapper::new_peripheral(setup);
+    let begun = wrapper::new_peripheral(no_setup());
     let responder = begun.responder;
     Walk {
         going: true,
@@ -83,115 +106,136 @@ fn start() -> Walk {
     }
 }
 
-// One record: its header, and then its payload, as long as the header says.
-fn record(walk: Walk, payload: &mut [u8], line: &mut [u8]) -> Walk {
+fn no_setup() -> Setup {
+    let read = calls::read_setup(b"");
+    let call = read.call;
+    let setup = call.setup;
+    setup
+}
+
+fn turn(walk: Walk, payload: &mut [u8]) -> Walk {
+    let read = record(walk.begun, payload);
+    let next = read.next;
+    let n = least(read.size, payload.len());
+    take(walk, next, &payload[0..n])
+}
+
+// One record: its header, and then its payload, as long as the header says. Nothing of it is tested before it is read whole.
+fn record(begun: bool, payload: &mut [u8]) -> Read {
     let mut header = [0u8; 4];
     let got = io::read_full(0, &mut header);
-    if got == 0 {
-        return walk.ended();
-    }
     if got < 4 {
-        return walk.stopped(Fault::Incomplete, line);
+        return Read {
+            next: cut(got),
+            size: 0,
+        };
     }
     let head = calls::read_header(&header);
     let kind = head.kind;
-    let length = least(head.length, payload.len());
-    whole(walk, kind, &mut payload[0..length], line)
+    let size = least(head.length, payload.len());
+    if io::read_full(0, &mut payload[0..size]) < size {
+        return Read {
+            next: Next::Stop(Fault::Incomplete),
+            size,
+        };
+    }
+    Read {
+        next: called(kind, begun),
+        size,
+    }
 }
 
-// Nothing of a record is tested before it is read whole.
-fn whole(walk: Walk, kind: Kind, payload: &mut [u8], line: &mut [u8]) -> Walk {
-    let got = io::read_full(0, payload);
-    if got < payload.len() {
-        return walk.stopped(Fault::Incomplete, line);
+// The input ends before a header, or within it.
+fn cut(got: usize) -> Next {
+    if got == 0 {
+        return Next::End;
     }
-    if walk.begun {
-        return later(walk, kind, payload, line);
-    }
-    first(walk, kind, payload, line)
+    Next::Stop(Fault::Incomplete)
 }
 
-// The first record: a setup, or the walk stops.
-fn first(walk: Walk, kind: Kind, payload: &[u8], line: &mut [u8]) -> Walk {
+// The call of a record.
+fn called(kind: Kind, begun: bool) -> Next {
     match kind {
-        Kind::Setup => setup(walk, payload, line),
-        Kind::Command => walk.stopped(Fault::NoSetup, line),
-        Kind::Event => walk.stopped(Fault::NoSetup, line),
-        Kind::Timeout => walk.stopped(Fault::NoSetup, line),
-        Kind::Answer => walk.stopped(Fault::NoSetup, line),
-        Kind::Unknown => walk.stopped(Fault::UnknownKind, line),
+        Kind::Setup => Next::Setup,
+        Kind::Command => later(Next::Command, begun),
+        Kind::Event => later(Next::Event, begun),
+        Kind::Timeout => later(Next::Timeout, begun),
+        Kind::Answer => later(Next::Answer, begun),
+        Kind::Unknown => Next::Stop(Fault::UnknownKind),
     }
 }
 
-fn later(walk: Walk, kind: Kind, payload: &[u8], line: &mut [u8]) -> Walk {
-    match kind {
-        Kind::Setup => setup(walk, payload, line),
-        Kind::Command => command(walk, payload, line),
-        Kind::Event => event(walk, payload, line),
-        Kind::Timeout => timeout(walk, payload, line),
-        Kind::Answer => answer(walk, payload, line),
-        Kind::Unknown => walk.stopped(Fault::UnknownKind, line),
+// A setup comes first.
+fn later(next: Next, begun: bool) -> Next {
+    if begun {
+        next
+    } else {
+        Next::Stop(Fault::NoSetup)
     }
 }
 
-fn setup(walk: Walk, payload: &[u8], line: &mut [u8]) -> Walk {
+fn take(walk: Walk, next: Next, payload: &[u8]) -> Walk {
+    match next {
+        Next::Setup => setup(walk, payload),
+        Next::Command => command(walk, payload),
+        Next::Event => event(walk, payload),
+        Next::Timeout => timeout(walk, payload),
+        Next::Answer => answer(walk, payload),
+        Next::End => walk.ended(),
+        Next::Stop(why) => walk.stopped(why),
+    }
+}
+
+fn setup(walk: Walk, payload: &[u8]) -> Walk {
     let read = calls::read_setup(payload);
     if read.fits {
         let call = read.call;
-        let mut outbox = [0u8; 512];
-        let begun = begin(call, &mut outbox);
-        let responder = begun.responder;
-        let answer = begun.answer;
-        let n = lines::setup(line, walk.number, begun, &outbox);
-        return walk.next(
-            write(line, n),
-            payload.len(),
-            responder,
-            start_answer(answer),
-        );
+        return take_setup(walk, call, payload.len());
     }
-    walk.stopped(Fault::Misfit, line)
+    walk.stopped(Fault::Misfit)
 }
 
-fn command(walk: Walk, payload: &[u8], line: &mut [u8]) -> Walk {
+fn take_setup(walk: Walk, call: SetupCall, size: usize) -> Walk {
+    let mut outbox = [0u8; 512];
+    let begun = begin(call, &mut outbox);
+    let responder = begun.responder;
+    let answer = begun.answer;
+    let line = lines::setup(walk.number, begun, outbox);
+    walk.next(line, size, responder, start_answer(answer))
+}
+
+fn command(walk: Walk, payload: &[u8]) -> Walk {
     let read = calls::read_command(payload);
     if read.fits {
         let call = read.call;
         let at = least(COMMAND, payload.len());
-        return take_command(walk, call, &payload[at..], payload.len(), line);
+        return take_command(walk, call, &payload[at..], payload.len());
     }
-    walk.stopped(Fault::Misfit, line)
+    walk.stopped(Fault::Misfit)
 }
 
-fn take_command(walk: Walk, call: Call, cmd: &[u8], size: usize, line: &mut [u8]) -> Walk {
+fn take_command(walk: Walk, call: Call, cmd: &[u8], size: usize) -> Walk {
     let responder = walk.responder;
     let supplied = call.supplied;
     let given = call.given;
     let asked = responder.command_question(cmd, supplied, given);
     let mut outbox = [0u8; 512];
-    let stepped = step_command(responder, call, cmd, &mut outbox);
-    let after = stepped.responder;
-    let answer = stepped.answer;
-    let n = lines::command(line, walk.number, stepped, &outbox, asked);
-    walk.next(write(line, n), size, after, answer)
+    let room = least(call.outbox, 512);
+    let stepped = responder.command(cmd, supplied, &mut outbox[0..room]);
+    let line = lines::command(walk.number, stepped, outbox, asked);
+    walk.stepped(line, size, stepped)
 }
 
-fn step_command(responder: Responder, call: Call, cmd: &[u8], outbox: &mut [u8]) -> Stepped {
-    let supplied = call.supplied;
-    let n = least(call.outbox, outbox.len());
-    responder.command(cmd, supplied, &mut outbox[0..n])
-}
-
-fn event(walk: Walk, payload: &[u8], line: &mut [u8]) -> Walk {
+fn event(walk: Walk, payload: &[u8]) -> Walk {
     let read = calls::read_event(payload);
     if read.fits {
         let call = read.call;
-        return take_event(walk, call, payload.len(), line);
+        return take_event(walk, call, payload.len());
     }
-    walk.stopped(Fault::Misfit, line)
+    walk.stopped(Fault::Misfit)
 }
 
-fn take_event(walk: Walk, call: EventCall, size: usize, line: &mut [u8]) -> Walk {
+fn take_event(walk: Walk, call: EventCall, size: usize) -> Walk {
     let responder = walk.responder;
     let came = call.came;
     let values = call.values;
@@ -200,55 +244,58 @@ fn take_event(walk: Walk, call: EventCall, size: usize, line: &mut [u8]) -> Walk
     let given = with.given;
     let asked = responder.event_question(came, values, supplied, given);
     let mut outbox = [0u8; 512];
-    let stepped = step_event(responder, call, &mut outbox);
-    let after = stepped.responder;
-    let answer = stepped.answer;
-    let n = lines::event(line, walk.number, stepped, &outbox, asked);
-    walk.next(write(line, n), size, after, answer)
+    let room = least(with.outbox, 512);
+    let stepped = responder.event(came, values, supplied, &mut outbox[0..room]);
+    let line = lines::event(walk.number, stepped, outbox, asked);
+    walk.stepped(line, size, stepped)
 }
 
-fn step_event(responder: Responder, call: EventCall, outbox: &mut [u8]) -> Stepped {
-    let came = call.came;
-    let values = call.values;
-    let with = call.call;
-    let supplied = with.supplied;
-    let n = least(with.outbox, outbox.len());
-    responder.event(came, values, supplied, &mut outbox[0..n])
-}
-
-fn timeout(walk: Walk, payload: &[u8], line: &mut [u8]) -> Walk {
+fn timeout(walk: Walk, payload: &[u8]) -> Walk {
     if payload.len() == 0 {
-        let responder = walk.responder;
-        let answer = walk.answer;
-        let after = responder.mark_timeout();
-        let n = lines::timeout(line, walk.number, after);
-        return walk.next(write(line, n), 0, after, answer);
+        return take_timeout(walk);
     }
-    walk.stopped(Fault::Misfit, line)
+    walk.stopped(Fault::Misfit)
 }
 
-fn answer(walk: Walk, payload: &[u8], line: &mut [u8]) -> Walk {
+fn take_timeout(walk: Walk) -> Walk {
+    let responder = walk.responder;
+    let answer = walk.answer;
+    let after = responder.mark_timeout();
+    let line = lines::timeout(walk.number, seen(after));
+    walk.next(line, 0, after, answer)
+}
+
+fn answer(walk: Walk, payload: &[u8]) -> Walk {
     let read = calls::read_answer(payload);
     match read {
-        ReadAnswer::Fits(seen) => {
-            let responder = walk.responder;
-            let given = walk.answer;
-            let n = lines::answer(line, walk.number, same(seen, given), responder);
-            walk.next(write(line, n), payload.len(), responder, given)
-        }
-        ReadAnswer::Misfit => walk.stopped(Fault::Misfit, line),
+        ReadAnswer::Fits(shown) => take_answer(walk, shown, payload.len()),
+        ReadAnswer::Misfit => walk.stopped(Fault::Misfit),
     }
+}
+
+fn take_answer(walk: Walk, shown: Answer, size: usize) -> Walk {
+    let responder = walk.responder;
+    let given = walk.answer;
+    let line = lines::answer(walk.number, same(shown, given), seen(responder));
+    walk.next(line, size, responder, given)
 }
 
 // Begins a pairing. A plain start has no outbox.
 fn begin(call: SetupCall, outbox: &mut [u8]) -> Begun {
     let start = call.start;
     let setup = call.setup;
-    let n = least(call.outbox, outbox.len());
-    match start {
-        StartKind::Plain => wrapper::new_peripheral(setup),
-        StartKind::ByUser => wrapper::initiate_peripheral(setup, true, &mut outbox[0..n]),
-        StartKind::NotByUser => wrapper::initiate_peripheral(setup, false, &mut outbox[0..n]),
+    if let StartKind::Plain = start {
+        return wrapper::new_peripheral(setup);
+    }
+    let room = least(call.outbox, outbox.len());
+    wrapper::initiate_peripheral(setup, by_user(start), &mut outbox[0..room])
+}
+
+fn by_user(start: StartKind) -> bool {
+    if let StartKind::ByUser = start {
+        true
+    } else {
+        false
     }
 }
 
@@ -271,8 +318,14 @@ fn same(a: Answer, b: Answer) -> bool {
     false
 }
 
-// Writes the first n octets of the line, and answers whether that went well.
-fn write(line: &[u8], n: usize) -> bool {
-    let end = least(n, line.len());
-    io::write_all(1, &line[0..end])
+// Writes the line, and answers whether that went well.
+fn write(line: Line) -> bool {
+    let octets = line.octets;
+    write_first(&octets, line.length)
+}
+
+// Writes the first n octets.
+fn write_first(octets: &[u8], n: usize) -> bool {
+    let end = least(n, octets.len());
+    io::write_all(1, &octets[0..end])
 }

@@ -1,11 +1,21 @@
 // The parts of a line that say how the machine stands after the call: state, method, round, held, level, bond and peer.
-use crate::names;
 use crate::parts;
-use crate::text::decimal;
-use crate::text::name;
-use crate::text::word;
+use crate::text::Line;
+use address::Address;
+use machine::MaybeBond;
 use machine::Phase;
+use method::PairingMethod;
+use method::SecurityLevel;
 use responder::Responder;
+
+// What a line shows of a machine.
+pub(crate) struct View {
+    phase: Phase,
+    method: PairingMethod,
+    level: SecurityLevel,
+    bond: MaybeBond,
+    peer: Address,
+}
 
 // What a phase shows beside its name.
 enum Shown {
@@ -14,35 +24,44 @@ enum Shown {
     Round(u8),
 }
 
-pub(crate) fn standing(out: &mut [u8], at: usize, responder: Responder) -> usize {
+pub(crate) fn seen(responder: Responder) -> View {
     let state = responder.state;
     let phase = state.phase;
     let method = state.method;
-    let first = word(out, at, b" state=");
-    let second = waiting(out, first, phase);
-    let third = word(out, second, b" method=");
-    let fourth = name(out, third, &names::method(method));
-    let fifth = counts(out, fourth, beside(phase));
-    known(out, fifth, responder)
+    View {
+        phase,
+        method,
+        level: queries::security_level(responder),
+        bond: queries::bond_information(responder),
+        peer: queries::peer_address(responder),
+    }
+}
+
+pub(crate) fn standing(line: Line, view: View) -> Line {
+    let phase = view.phase;
+    let method = view.method;
+    let named = waiting(line.word(b" state="), phase);
+    let chosen = named.word(b" method=").name(names::method(method));
+    known(counts(chosen, beside(phase)), view)
 }
 
 // What is to be known from outside: level, bond and peer.
-fn known(out: &mut [u8], at: usize, responder: Responder) -> usize {
-    let first = word(out, at, b" level=");
-    let second = level(out, first, responder);
-    let third = word(out, second, b" bond=");
-    let fourth = bond(out, third, responder);
-    let fifth = word(out, fourth, b" peer=");
-    peer(out, fifth, responder)
+fn known(line: Line, view: View) -> Line {
+    let level = view.level;
+    let held = view.bond;
+    let peer = view.peer;
+    let levelled = line.word(b" level=").name(names::level(level));
+    let bonded = bond(levelled.word(b" bond="), held);
+    parts::address(bonded.word(b" peer="), peer)
 }
 
 // The state's name, with the failure's in Error.
-fn waiting(out: &mut [u8], at: usize, phase: Phase) -> usize {
-    let place = name(out, at, &names::state(phase));
+fn waiting(line: Line, phase: Phase) -> Line {
+    let named = line.name(names::state(phase));
     if let Phase::Error(failure) = phase {
-        return name(out, place, &names::failure(failure));
+        return named.name(names::failure(failure));
     }
-    place
+    named
 }
 
 fn beside(phase: Phase) -> Shown {
@@ -66,40 +85,31 @@ fn beside(phase: Phase) -> Shown {
 }
 
 // Round and held.
-fn counts(out: &mut [u8], at: usize, shown: Shown) -> usize {
+fn counts(line: Line, shown: Shown) -> Line {
     match shown {
-        Shown::Nothing => word(out, at, b" round=- held=-"),
-        Shown::Held(held) => payload(out, at, held),
-        Shown::Round(number) => round(out, at, number),
+        Shown::Nothing => line.word(b" round=- held=-"),
+        Shown::Held(held) => payload(line, held),
+        Shown::Round(number) => round(line, number),
     }
 }
 
-fn payload(out: &mut [u8], at: usize, held: bool) -> usize {
+fn payload(line: Line, held: bool) -> Line {
     if held {
-        return word(out, at, b" round=- held=1");
+        return line.word(b" round=- held=1");
     }
-    word(out, at, b" round=- held=0")
+    line.word(b" round=- held=0")
 }
 
-fn round(out: &mut [u8], at: usize, number: u8) -> usize {
-    let first = word(out, at, b" round=");
-    let second = decimal(out, first, number as u64);
-    word(out, second, b" held=-")
+fn round(line: Line, number: u8) -> Line {
+    line.word(b" round=")
+        .decimal(number as u64)
+        .word(b" held=-")
 }
 
-fn level(out: &mut [u8], at: usize, responder: Responder) -> usize {
-    name(out, at, &names::level(queries::security_level(responder)))
-}
-
-fn bond(out: &mut [u8], at: usize, responder: Responder) -> usize {
-    let held = queries::bond_information(responder);
+fn bond(line: Line, held: MaybeBond) -> Line {
     let bond = held.bond;
     if held.there {
-        return parts::bond(out, at, bond);
+        return parts::bond(line, bond);
     }
-    word(out, at, b"-")
-}
-
-fn peer(out: &mut [u8], at: usize, responder: Responder) -> usize {
-    parts::address(out, at, queries::peer_address(responder))
+    line.word(b"-")
 }

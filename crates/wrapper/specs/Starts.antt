@@ -71,8 +71,13 @@ abbrev pub asksMitm : Setup → Bool → Bool
 asksMitm s true = interactive (s .io)
 asksMitm s false = cond (s .known .there) (authenticated (s .known .bond .level)) (interactive (s .io))
 
--- a start with a Security Request: R2, then R3
+-- a frame behind a start that began; a refused one stays as it is
+abbrev pub sending : Start → Beginning → List ℕ → Beginning
+sending S.Started b frames = record { next = b .next; frames = frames; answer = S.Started }
+sending (S.Refused x) b frames = b
+
+-- a start with a Security Request: R2, then as a plain one
 unfoldable pub initiateOf : Setup → Bool → ℕ → Beginning
 initiateOf s user room =
     cond (ltb room 90) (startRefused s R.OutboxShort)
-    (cond (suits (s .passkey)) (started s (securityRequest (ourAuthReq (s .bonding) (asksMitm s user)))) (startRefused s R.PasskeyRange))
+    (sending ((startOf s) .answer) (startOf s) (securityRequest (ourAuthReq (s .bonding) (asksMitm s user))))

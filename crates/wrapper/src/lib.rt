@@ -29,7 +29,7 @@ pub struct Begun {
     pub answer: Start,
 }
 
-// A responder that awaits a request. A configured passkey out of range is refused.
+// A responder that awaits a request. A configured passkey out of range is refused: here alone a setup is tested.
 pub fn new_peripheral(setup: Setup) -> Begun
     ensures { λ r. ⌜ r ≡ begunOf (startOf setup) 0 ⌝ }
 {
@@ -47,15 +47,20 @@ pub fn initiate_peripheral(setup: Setup, user: bool, out: &mut [u8]) -> Begun
     if out.len() < 90 {
         return refused(setup, Refusal::OutboxShort);
     }
-    let configured = setup.passkey;
-    if suitable(configured) {
-        let sent = frames::security_request(
-            out,
-            features::auth_req(setup.bonding, asks_mitm(setup, user)),
-        );
-        return running(fresh(setup), sent);
+    let begun = new_peripheral(setup);
+    let answer = begun.answer;
+    match answer {
+        Start::Started => {
+            let sent = frames::security_request(
+                out,
+                features::auth_req(setup.bonding, asks_mitm(setup, user)),
+            );
+            let mut asked = begun;
+            asked.sent = sent;
+            asked
+        }
+        Start::Refused(_refusal) => begun,
     }
-    refused(setup, Refusal::PasskeyRange)
 }
 
 // A fresh machine: no peer features, no key distribution bits, method JustWorks, key size 16.

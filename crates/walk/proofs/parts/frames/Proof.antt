@@ -1,6 +1,5 @@
 -- `walk::parts::frames` is safe and ends: each turn passes one frame, which is not empty. Assumes nothing.
 use Prim.Native.Nat.{_≤_, _-_}
-use mathlib.Core.Path.{_≡_}
 use native.Mathlib.Omega.{arith}
 use lib.ListN.{length}
 use borrow.Author.Needs.{needs}
@@ -9,22 +8,22 @@ use Rattle.walk.proofs.parts.frames.Statement.{statement}
 use Rattle.walk.proofs.parts.frames.Tie as tie
 
 abbrev Inv-loop : tie.InvT-loop
-Inv-loop out₀ at sent place₀ begin₀ out place begin = (begin ≤ length sent) × (length out ≡ length out₀)
+Inv-loop sent written₀ begin₀ written begin = begin ≤ length sent
 
 abbrev μ-loop : tie.MeasureT-loop
-μ-loop out₀ at sent place₀ begin₀ out place begin = length sent - begin
+μ-loop sent written₀ begin₀ written begin = length sent - begin
 
 add-end : tie.Need-add-end Inv-loop μ-loop
 add-end c = omega (arith, end-most _ (c .frame-end .ensures))
 
-part-hex-end : tie.Need-part-hex-end Inv-loop μ-loop
-part-hex-end c = omega (arith, end-most _ (c .before .before .before .before .before .frame-end .ensures))
+part-frame-end : tie.Need-part-frame-end Inv-loop μ-loop
+part-frame-end c = omega (arith, end-most _ (c .frame-end .ensures))
 
 loop-less : tie.Need-loop-less Inv-loop μ-loop
-loop-less c = omega (arith, end-some _ (c .before .before .before .before .before .before .before .before .before .frame-end .ensures) (omega arith))
+loop-less c = omega (arith, end-some _ (c .before .before .frame-end .ensures) (omega arith))
 
 loop-again : tie.Need-loop-again Inv-loop μ-loop
-loop-again c = (omega (arith, end-most _ (c .before .before .before .before .before .before .before .before .before .frame-end .ensures)), omega arith)
+loop-again c = omega (arith, end-most _ (c .before .before .frame-end .ensures))
 
 pub frames-spec : {M : Type 1} → statement M
 frames-spec =
@@ -39,15 +38,12 @@ frames-spec =
     (λ c. search needs)
     (λ c. search needs)
     (λ c. search needs)
-    (λ c. search needs)
     (λ c κs. search needs)
     add-end
-    (λ c κs. search needs)
     (λ c. search needs)
     (λ c. search needs)
-    part-hex-end
+    part-frame-end
     (λ c κs. search needs)
     loop-less
     loop-again
-    (λ c. search needs)
     (λ c. search needs))

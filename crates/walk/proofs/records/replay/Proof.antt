@@ -6,10 +6,10 @@ use Rattle.walk.proofs.records.replay.Statement.{statement}
 use Rattle.walk.proofs.records.replay.Tie as tie
 
 abbrev Inv-loop : tie.InvT-loop
-Inv-loop payload₀ line₀ walk₀ turns₀ payload line walk turns = (length payload ≡ length payload₀) × (length line ≡ length line₀)
+Inv-loop payload₀ walk₀ turns₀ payload walk turns = length payload ≡ length payload₀
 
 abbrev μ-loop : tie.MeasureT-loop
-μ-loop payload₀ line₀ walk₀ turns₀ payload line walk turns = turns
+μ-loop payload₀ walk₀ turns₀ payload walk turns = turns
 
 pub replay-spec : {M : Type 1} → statement M
 replay-spec =
@@ -20,8 +20,6 @@ replay-spec =
     (λ c κs. search needs)
     (λ c. search needs)
     (λ c κs. search needs)
-    (λ c. search needs)
-    (λ c. search needs)
     (λ c. search needs)
     (λ c. search needs)
     (λ c. search needs)

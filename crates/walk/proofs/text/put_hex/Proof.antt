@@ -1,10 +1,10 @@
--- `walk::text::hex` is safe and ends: each turn passes one octet. Assumes nothing.
+-- `walk::text::put_hex` is safe and ends: each turn passes one octet. Assumes nothing.
 use Prim.Native.Nat.{_-_}
 use mathlib.Core.Path.{_≡_}
 use lib.ListN.{length}
 use borrow.Author.Needs.{needs}
-use Rattle.walk.proofs.text.hex.Statement.{statement}
-use Rattle.walk.proofs.text.hex.Tie as tie
+use Rattle.walk.proofs.text.put_hex.Statement.{statement}
+use Rattle.walk.proofs.text.put_hex.Tie as tie
 
 abbrev Inv-loop : tie.InvT-loop
 Inv-loop out₀ at octets place₀ i₀ out place i = length out ≡ length out₀
@@ -12,8 +12,8 @@ Inv-loop out₀ at octets place₀ i₀ out place i = length out ≡ length out�
 abbrev μ-loop : tie.MeasureT-loop
 μ-loop out₀ at octets place₀ i₀ out place i = length octets - i
 
-pub hex-spec : {M : Type 1} → statement M
-hex-spec =
+pub put-hex-spec : {M : Type 1} → statement M
+put-hex-spec =
     tie.close
     (tie.spec
     Inv-loop
