@@ -1,16 +1,8 @@
 -- No second answer meets a contract of this crate: neither the step nor an octet of the outbox is left open. Assumes nothing.
 use denote.Ref.{now}
-use Rattle.octets.proofs.Settles.{Unique, Settles, only}
+use Rattle.octets.proofs.Settles.{Settles}
 use Rattle.machine.proofs.Outcome.{only-met}
 use Rattle.exchange.proofs.public_key.Reads as public-key
-use Rattle.exchange.proofs.peer_x.Reads as peer-x
-use Rattle.exchange.proofs.peer_y.Reads as peer-y
 
 pub public-key-settled : Settles public-key.Post (λ κs e. now (e .1 .1 .1 .1 .0))
 public-key-settled κs a z z′ e e′ p q = only-met p q
-
-pub peer-x-unique : Unique peer-x.Post
-peer-x-unique κs a z z′ e e′ p q = only p q
-
-pub peer-y-unique : Unique peer-y.Post
-peer-y-unique κs a z z′ e e′ p q = only p q

@@ -10,9 +10,6 @@ use machine::Step;
 use machine::Supplied;
 use method::PairingMethod;
 use method::PassKeyEntryAction;
-ghost use mathlib.Core.Path.{_≡_};
-ghost use lib.ListN.{take, drop};
-ghost use Rattle.octets.specs.Octets.{turned};
 ghost use Rattle.machine.specs.Outcome.{Met, to, goes};
 ghost use Rattle.machine.specs.Exchange.{ourKey, comparing, showing, shown, begins, keyOf};
 
@@ -34,30 +31,11 @@ pub fn public_key(
     }
     if supplied.dhvalid {
         let dhkey = supplied.dhkey;
-        let secrets = states::fresh_secrets(peer_x(payload), dhkey);
+        let secrets = states::fresh_secrets(points::peer_x(payload), dhkey);
         let method = state.method;
         return begin(method, state, secrets, supplied, out);
     }
     outcome::failed(state, Failure::DHKeyCheckFailed)
-}
-
-// The x coordinate of a public key of 64 octets, and the y coordinate; zeros where there are fewer, or other, octets.
-pub fn peer_x(payload: &[u8]) -> [u8; 32]
-    ensures { λ r. ⌜ r ≡ turned 32 (take 32 (now (payload .entry))) ⌝ }
-{
-    if payload.len() < 32 {
-        return octets::reversed32(payload);
-    }
-    octets::reversed32(&payload[0..32])
-}
-
-pub fn peer_y(payload: &[u8]) -> [u8; 32]
-    ensures { λ r. ⌜ r ≡ turned 32 (drop 32 (now (payload .entry))) ⌝ }
-{
-    if payload.len() < 32 {
-        return [0u8; 32];
-    }
-    octets::reversed32(&payload[32..])
 }
 
 // The method's first move.

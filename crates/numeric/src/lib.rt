@@ -34,7 +34,7 @@ pub fn comparison_random(
 pub fn hold(state: State, held: bool, code: u8, payload: &[u8]) -> Step
     ensures { λ r. ⌜ Quiet (holdCheckOf state held code (now (payload .entry))) r ⌝ }
 {
-    outcome::holds(
+    holding::holds(
         state,
         held,
         13,

@@ -1,8 +1,5 @@
 -- No second answer meets a contract of this crate. Assumes nothing.
-use mathlib.Core.List.{[]}
 use Rattle.octets.proofs.Settles.{Unique, only}
-use Rattle.machine.proofs.Outcome.{only-met}
-use Rattle.outcome.proofs.holds.Reads as holds
 use Rattle.outcome.proofs.refused.Reads as refused
 use Rattle.outcome.proofs.failed.Reads as failed
 use Rattle.outcome.proofs.failed_after.Reads as failed-after
@@ -23,6 +20,3 @@ goes-unique κs a z z′ e e′ p q = only p q
 
 pub succeeded-unique : Unique succeeded.Post
 succeeded-unique κs a z z′ e e′ p q = only p q
-
-pub holds-unique : Unique holds.Post
-holds-unique κs a z z′ e e′ p q = only-met (p []) (q []) .0

@@ -1,5 +1,4 @@
-// How a step ends: refused, failed, gone on, succeeded, or with an early payload held. Frames are in the outbox by then; `sent` counts
-// their octets.
+// How a step ends: refused, failed, gone on or succeeded. Frames are in the outbox by then; `sent` counts their octets.
 use machine::Action;
 use machine::ActionKind;
 use machine::Answer;
@@ -13,8 +12,7 @@ use machine::State;
 use machine::Step;
 ghost use mathlib.Core.Path.{_≡_};
 ghost use mathlib.Core.List.{[]};
-ghost use Rattle.machine.specs.Outcome.{Quiet, said, to, refused, failing, goes, succeeds, completing, storing, wantsBonding};
-ghost use Rattle.machine.specs.Hold.{holding};
+ghost use Rattle.machine.specs.Outcome.{said, to, refused, failing, goes, succeeds, completing, storing, wantsBonding};
 
 // The call is refused: nothing changes.
 pub fn refused(state: State, refusal: Refusal) -> Step
@@ -87,25 +85,6 @@ pub fn succeeded(state: State, sent: usize) -> Step
         action: storing(bond, wanted),
         answer: Answer::Taken,
     }
-}
-
-// An early payload is held: one of the awaited code and sixteen octets.
-pub fn holds(state: State, held: bool, awaited: u8, code: u8, payload: &[u8], phase: Phase) -> Step
-    ensures { λ r. ⌜ Quiet (holding state held awaited code (now (payload .entry)) phase) r ⌝ }
-{
-    if code != awaited {
-        return failed(state, Failure::InvalidState);
-    }
-    if held {
-        return failed(state, Failure::InvalidState);
-    }
-    if payload.len() != 16 {
-        return failed(state, Failure::InvalidValue);
-    }
-    let mut secrets = state.secrets;
-    let early = octets::reversed16(payload);
-    secrets.held = early;
-    goes(state, phase, secrets, 0, ConnectionEvent::Nothing)
 }
 
 // Whether both sides ask bonding.

@@ -17,7 +17,7 @@ ghost use Rattle.machine.specs.Passkey.{confirming, holdConfirmOf, typedOf, typ
 pub fn hold(state: State, held: bool, code: u8, payload: &[u8]) -> Step
     ensures { λ r. ⌜ Quiet (holdConfirmOf state held code (now (payload .entry))) r ⌝ }
 {
-    outcome::holds(
+    holding::holds(
         state,
         held,
         3,

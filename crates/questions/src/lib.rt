@@ -155,7 +155,7 @@ fn key(state: State, code: u8, payload: &[u8], supplied: Supplied, given: Given)
     if payload.len() != 64 {
         return none();
     }
-    let x = exchange::peer_x(payload);
+    let x = points::peer_x(payload);
     if given.dh {
         if supplied.dhvalid {
             let method = state.method;
@@ -163,7 +163,7 @@ fn key(state: State, code: u8, payload: &[u8], supplied: Supplied, given: Given)
         }
         return none();
     }
-    ask_dh(x, exchange::peer_y(payload))
+    ask_dh(x, points::peer_y(payload))
 }
 
 fn our_confirm(

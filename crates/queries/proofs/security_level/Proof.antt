@@ -2,14 +2,8 @@
 use mathlib.Core.Path.{sym, ap, _∙_}
 use Rattle.machine.specs.Step.{securityLevel}
 use borrow.Author.Needs.{needs}
-use Rattle.queries.proofs.is_encrypted.Reads as is-encrypted-reads
 use Rattle.queries.proofs.security_level.Statement.{statement}
 use Rattle.queries.proofs.security_level.Tie as tie
-use Rattle.queries.proofs.security_level.Reads as reads
-use Rattle.queries.proofs.security_level.Lts as lts
-
-is-encrypted-requires : tie.Need-is-encrypted-requires
-is-encrypted-requires c κs = search needs
 
 returns : tie.Need-returns
 unfolding securityLevel
@@ -24,4 +18,4 @@ unfolding securityLevel
 returns-3 c = rw (sym (c .before .is-encrypted .ensures) ∙ c .if1 .left)
 
 pub security-level-spec : {M : Type 1} → statement M
-security-level-spec = tie.close (tie.spec is-encrypted-requires returns returns-2 returns-3)
+security-level-spec = tie.close (tie.spec (λ c κs. search needs) returns returns-2 returns-3)

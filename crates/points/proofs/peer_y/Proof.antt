@@ -1,4 +1,4 @@
--- `exchange::peer_y` meets its contract. Assumes nothing.
+-- `points::peer_y` meets its contract. Assumes nothing.
 use mathlib.Core.Path.{_≡_, refl, ap, _∙_}
 use mathlib.Core.List.{List, []}
 use Prim.Native.Nat.{ℕ, _-_}
@@ -7,8 +7,8 @@ use lib.ListN.{length, take, drop, length-drop, drop-of-length-le}
 use lib.Seq.{take-all}
 use Rattle.octets.specs.Octets.{zeros, turned}
 use borrow.Author.Needs.{needs}
-use Rattle.exchange.proofs.peer_y.Statement.{statement}
-use Rattle.exchange.proofs.peer_y.Tie as tie
+use Rattle.points.proofs.peer_y.Statement.{statement}
+use Rattle.points.proofs.peer_y.Tie as tie
 
 returns : tie.Need-returns
 unfolding zeros turned

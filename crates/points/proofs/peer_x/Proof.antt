@@ -1,9 +1,9 @@
--- `exchange::peer_x` meets its contract. Assumes nothing.
+-- `points::peer_x` meets its contract. Assumes nothing.
 use native.Mathlib.Omega.{arith}
 use lib.Seq.{take-all}
 use borrow.Author.Needs.{needs}
-use Rattle.exchange.proofs.peer_x.Statement.{statement}
-use Rattle.exchange.proofs.peer_x.Tie as tie
+use Rattle.points.proofs.peer_x.Statement.{statement}
+use Rattle.points.proofs.peer_x.Tie as tie
 
 returns : tie.Need-returns
 returns c = rw (take-all 32 (c .before .before .before .args .payload .now) (omega arith)) (c .reversed32 .ensures)

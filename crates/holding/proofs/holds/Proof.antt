@@ -1,8 +1,8 @@
--- `outcome::holds` meets its contract. Assumes nothing.
+-- `holding::holds` meets its contract. Assumes nothing.
 use Rattle.machine.proofs.Outcome.{not-awaited, second, held-size, held-now}
 use borrow.Author.Needs.{needs}
-use Rattle.outcome.proofs.holds.Statement.{statement}
-use Rattle.outcome.proofs.holds.Tie as tie
+use Rattle.holding.proofs.holds.Statement.{statement}
+use Rattle.holding.proofs.holds.Tie as tie
 
 returns : tie.Need-returns
 returns c = not-awaited _ _ _ _ _ _ _ (c .before .if1 .taken) (c .failed .ensures)
