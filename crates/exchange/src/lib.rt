@@ -10,7 +10,8 @@ use machine::Step;
 use machine::Supplied;
 use method::PairingMethod;
 use method::PassKeyEntryAction;
-ghost use Rattle.machine.specs.Outcome.{Met, to, goes};
+ghost use Rattle.machine.specs.Outcome.{Met, to, need, goes};
+ghost use Rattle.machine.specs.Secrets.{fresh};
 ghost use Rattle.machine.specs.Exchange.{ourKey, comparing, showing, shown, begins, keyOf};
 
 // A command in WaitingPublicKey. Our key leaves only where the peer's is known to be valid.
@@ -29,11 +30,23 @@ pub fn public_key(
     if payload.len() != 64 {
         return outcome::failed(state, Failure::InvalidParameters);
     }
+    keyed(state, points::peer_x(payload), supplied, out)
+}
+
+// The peer's key by its x, and what was supplied for it: the DHKey, or that there is none.
+fn keyed(state: State, x: [u8; 32], supplied: Supplied, out: &mut [u8]) -> Step
+    ensures { λ r. ⌜ Met (need state (supplied .dhvalid) Failure.DHKeyCheckFailed (begins (state .method) state (fresh x (supplied .dhkey)) supplied)) r (now (out .entry)) (now (out .exit)) ⌝ }
+{
     if supplied.dhvalid {
         let dhkey = supplied.dhkey;
-        let secrets = states::fresh_secrets(points::peer_x(payload), dhkey);
         let method = state.method;
-        return begin(method, state, secrets, supplied, out);
+        return begin(
+            method,
+            state,
+            states::fresh_secrets(x, dhkey),
+            supplied,
+            out,
+        );
     }
     outcome::failed(state, Failure::DHKeyCheckFailed)
 }
@@ -48,29 +61,45 @@ fn begin(
 ) -> Step
     ensures { λ r. ⌜ Met (begins method state secrets supplied) r (now (out .entry)) (now (out .exit)) ⌝ }
 {
-    let setup = state.setup;
-    let configured = setup.passkey;
     match method {
         PairingMethod::JustWorks => compare(state, secrets, supplied, out),
         PairingMethod::NumericComparison => compare(state, secrets, supplied, out),
         PairingMethod::PassKeyEntry {
-            central: _central,
+            central,
             peripheral,
-        } => match peripheral {
-            PassKeyEntryAction::Display => show(configured, state, secrets, supplied.passkey, out),
-            PassKeyEntryAction::Input => send_key(
-                state,
-                Phase::WaitingPassKeyInput(false),
-                secrets,
-                ConnectionEvent::PassKeyInput,
-                out,
-            ),
-        },
+        } => enter(central, peripheral, state, secrets, supplied, out),
         PairingMethod::OutOfBand => send_key(
             state,
             Phase::WaitingOobData,
             secrets,
             ConnectionEvent::OobRequest,
+            out,
+        ),
+    }
+}
+
+// Passkey entry: the passkey is shown here, or typed here. What the peer does is not asked.
+fn enter(
+    theirs: PassKeyEntryAction,
+    ours: PassKeyEntryAction,
+    state: State,
+    secrets: Secrets,
+    supplied: Supplied,
+    out: &mut [u8],
+) -> Step
+    ensures { λ r. ⌜ Met (begins (PairingMethod.PassKeyEntry theirs ours) state secrets supplied) r (now (out .entry)) (now (out .exit)) ⌝ }
+{
+    match ours {
+        PassKeyEntryAction::Display => {
+            let setup = state.setup;
+            let configured = setup.passkey;
+            show(configured, state, secrets, supplied.passkey, out)
+        }
+        PassKeyEntryAction::Input => send_key(
+            state,
+            Phase::WaitingPassKeyInput(false),
+            secrets,
+            ConnectionEvent::PassKeyInput,
             out,
         ),
     }

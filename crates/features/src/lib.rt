@@ -166,10 +166,10 @@ pub fn oob_number(oob: UseOutOfBand) -> u8
     }
 }
 
-pub fn oob_of(number: u8) -> UseOutOfBand
-    ensures { λ r. ⌜ r ≡ oobOf number ⌝ }
+pub fn oob_of(octet: u8) -> UseOutOfBand
+    ensures { λ r. ⌜ r ≡ oobOf octet ⌝ }
 {
-    if number == 0 {
+    if octet == 0 {
         return UseOutOfBand::NotPresent;
     }
     UseOutOfBand::Present

@@ -1,2 +1,3 @@
+mod Other
 pub mod Front
 pub mod Unique

@@ -108,8 +108,8 @@ fn by_command(
             supplied,
             out,
         ),
-        Phase::WaitingNumericComparisonResult(held) => numeric::hold(state, held, code, payload),
-        Phase::WaitingPassKeyInput(held) => passkey::hold(state, held, code, payload),
+        Phase::WaitingNumericComparisonResult(held) => holding::check(state, held, code, payload),
+        Phase::WaitingPassKeyInput(held) => holding::confirm(state, held, code, payload),
         Phase::WaitingPassKeyEntryConfirm(round) => passkey::confirm(
             state,
             round,
@@ -149,8 +149,6 @@ fn by_event(
 {
     match phase {
         Phase::WaitingPairingRequest => link::bonded_link_event(state, came, out),
-        Phase::WaitingPublicKey => outcome::failed(state, Failure::InvalidState),
-        Phase::WaitingNumericComparisonRandom => outcome::failed(state, Failure::InvalidState),
         Phase::WaitingNumericComparisonResult(held) => numeric::comparison_event(
             state,
             held,
@@ -159,15 +157,10 @@ fn by_event(
             out,
         ),
         Phase::WaitingPassKeyInput(held) => passkey::typing_event(state, held, came, supplied, out),
-        Phase::WaitingPassKeyEntryConfirm(_round) => outcome::failed(state, Failure::InvalidState),
-        Phase::WaitingPassKeyEntryRandom(_round) => outcome::failed(state, Failure::InvalidState),
         Phase::WaitingOobData => oob::oob_event(state, came, values, supplied),
-        Phase::WaitingOobRandom => outcome::failed(state, Failure::InvalidState),
-        Phase::WaitingDHKeyEa => outcome::failed(state, Failure::InvalidState),
         Phase::WaitingLinkEncrypted => link::encrypted_event(state, came, out),
-        Phase::WaitingIdentitityInformation => outcome::failed(state, Failure::InvalidState),
-        Phase::WaitingIdentitityAddressInformation => outcome::failed(state, Failure::InvalidState),
         Phase::Success => outcome::refused(state, Refusal::Finished),
         Phase::Error(_failure) => outcome::refused(state, Refusal::Finished),
+        _ => outcome::failed(state, Failure::InvalidState),
     }
 }

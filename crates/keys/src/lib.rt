@@ -72,9 +72,12 @@ fn bond_with_address(held: MaybeBond, address: Address) -> MaybeBond
     ensures { λ r. ⌜ r ≡ withAddress held address ⌝ }
 {
     if held.there {
-        let mut bond = held.bond;
-        bond.address = address;
-        return MaybeBond { there: true, bond };
+        let mut known = held.bond;
+        known.address = address;
+        return MaybeBond {
+            there: true,
+            bond: known,
+        };
     }
     held
 }

@@ -17,10 +17,7 @@ pub fn bonded_link_event(state: State, event: Event, out: &mut [u8]) -> Step
 {
     match event {
         Event::LinkEncryptedResult(ok) => bonded_link(state, ok, out),
-        Event::PassKeyConfirm => outcome::failed(state, Failure::InvalidState),
-        Event::PassKeyCancel => outcome::failed(state, Failure::InvalidState),
-        Event::PassKeyInput(_passkey) => outcome::failed(state, Failure::InvalidState),
-        Event::OobDataReceived => outcome::failed(state, Failure::InvalidState),
+        _ => outcome::failed(state, Failure::InvalidState),
     }
 }
 
@@ -30,17 +27,14 @@ pub fn encrypted_event(state: State, event: Event, out: &mut [u8]) -> Step
 {
     match event {
         Event::LinkEncryptedResult(ok) => encrypted(state, ok, out),
-        Event::PassKeyConfirm => outcome::failed(state, Failure::InvalidState),
-        Event::PassKeyCancel => outcome::failed(state, Failure::InvalidState),
-        Event::PassKeyInput(_passkey) => outcome::failed(state, Failure::InvalidState),
-        Event::OobDataReceived => outcome::failed(state, Failure::InvalidState),
+        _ => outcome::failed(state, Failure::InvalidState),
     }
 }
 
-fn bonded_link(state: State, ok: bool, out: &mut [u8]) -> Step
-    ensures { λ r. ⌜ Met (bondedLinkOf state ok) r (now (out .entry)) (now (out .exit)) ⌝ }
+fn bonded_link(state: State, linked: bool, out: &mut [u8]) -> Step
+    ensures { λ r. ⌜ Met (bondedLinkOf state linked) r (now (out .entry)) (now (out .exit)) ⌝ }
 {
-    if ok {
+    if linked {
         let setup = state.setup;
         let known = setup.known;
         let mut bonded = state;

@@ -7,8 +7,8 @@ use machine::State;
 use machine::Step;
 use machine::Supplied;
 use method::PairingMethod;
-ghost use Rattle.machine.specs.Outcome.{Met, Quiet};
-ghost use Rattle.machine.specs.Numeric.{compares, comparisonRandomOf, holdCheckOf, confirmedOf, comparisonEvent};
+ghost use Rattle.machine.specs.Outcome.{Met};
+ghost use Rattle.machine.specs.Numeric.{compares, comparisonRandomOf, confirmedOf, comparisonEvent};
 
 // A command in WaitingNumericComparisonRandom: the peer's nonce, which ours answers.
 pub fn comparison_random(
@@ -30,20 +30,6 @@ pub fn comparison_random(
     compare(method, state, octets::reversed16(payload), supplied.g2, out)
 }
 
-// A command in WaitingNumericComparisonResult: one early DHKey check is held.
-pub fn hold(state: State, held: bool, code: u8, payload: &[u8]) -> Step
-    ensures { λ r. ⌜ Quiet (holdCheckOf state held code (now (payload .entry))) r ⌝ }
-{
-    holding::holds(
-        state,
-        held,
-        13,
-        code,
-        payload,
-        Phase::WaitingNumericComparisonResult(true),
-    )
-}
-
 // An event in WaitingNumericComparisonResult: the user's yes or no.
 pub fn comparison_event(
     state: State,
@@ -55,11 +41,9 @@ pub fn comparison_event(
     ensures { λ r. ⌜ Met (comparisonEvent state held event supplied) r (now (out .entry)) (now (out .exit)) ⌝ }
 {
     match event {
-        Event::LinkEncryptedResult(_ok) => outcome::failed(state, Failure::InvalidState),
         Event::PassKeyConfirm => confirmed(state, held, supplied, out),
         Event::PassKeyCancel => outcome::failed(state, Failure::NumericComparisonFailed),
-        Event::PassKeyInput(_passkey) => outcome::failed(state, Failure::InvalidState),
-        Event::OobDataReceived => outcome::failed(state, Failure::InvalidState),
+        _ => outcome::failed(state, Failure::InvalidState),
     }
 }
 
@@ -71,7 +55,6 @@ fn compare(method: PairingMethod, state: State, na: [u8; 16], g2: u32, out: &mut
     let nb = secrets.nb;
     secrets.na = na;
     let sent = frames::random(out, nb);
-    let shown = ConnectionEvent::PassKeyConfirm(g2 % 1_000_000);
     match method {
         PairingMethod::JustWorks => outcome::goes(
             state,
@@ -80,29 +63,12 @@ fn compare(method: PairingMethod, state: State, na: [u8; 16], g2: u32, out: &mut
             sent,
             ConnectionEvent::Nothing,
         ),
-        PairingMethod::NumericComparison => outcome::goes(
+        _ => outcome::goes(
             state,
             Phase::WaitingNumericComparisonResult(false),
             secrets,
             sent,
-            shown,
-        ),
-        PairingMethod::PassKeyEntry {
-            central: _central,
-            peripheral: _peripheral,
-        } => outcome::goes(
-            state,
-            Phase::WaitingNumericComparisonResult(false),
-            secrets,
-            sent,
-            shown,
-        ),
-        PairingMethod::OutOfBand => outcome::goes(
-            state,
-            Phase::WaitingNumericComparisonResult(false),
-            secrets,
-            sent,
-            shown,
+            ConnectionEvent::PassKeyConfirm(g2 % 1_000_000),
         ),
     }
 }

@@ -5,6 +5,7 @@ use machine::Event;
 use machine::Failure;
 use machine::OobData;
 use machine::Phase;
+use machine::Secrets;
 use machine::State;
 use machine::Step;
 use machine::Supplied;
@@ -13,6 +14,7 @@ ghost use mathlib.Core.Bool.{cond};
 ghost use Rattle.octets.specs.Octets.{zeros};
 ghost use Rattle.method.specs.Method.{set};
 ghost use Rattle.machine.specs.Outcome.{Met, Quiet};
+ghost use Rattle.machine.specs.Secrets.{setNonces};
 ghost use Rattle.machine.specs.Oob.{agrees, oobDataOf, oobRandomOf, oobEvent};
 
 // An event in WaitingOobData: the data.
@@ -20,11 +22,8 @@ pub fn oob_event(state: State, event: Event, values: OobData, supplied: Supplied
     ensures { λ r. ⌜ Quiet (oobEvent state event values supplied) r ⌝ }
 {
     match event {
-        Event::LinkEncryptedResult(_ok) => outcome::failed(state, Failure::InvalidState),
-        Event::PassKeyConfirm => outcome::failed(state, Failure::InvalidState),
-        Event::PassKeyCancel => outcome::failed(state, Failure::InvalidState),
-        Event::PassKeyInput(_passkey) => outcome::failed(state, Failure::InvalidState),
         Event::OobDataReceived => received(state, values, supplied),
+        _ => outcome::failed(state, Failure::InvalidState),
     }
 }
 
@@ -47,16 +46,23 @@ pub fn oob_random(
     let na = octets::reversed16(payload);
     let nb = supplied.nonce;
     let sent = frames::random(out, nb);
-    let mut secrets = state.secrets;
-    secrets.na = na;
-    secrets.nb = nb;
+    let secrets = state.secrets;
     outcome::goes(
         state,
         Phase::WaitingDHKeyEa,
-        secrets,
+        with_nonces(secrets, na, nb),
         sent,
         ConnectionEvent::Nothing,
     )
+}
+
+fn with_nonces(secrets: Secrets, na: [u8; 16], nb: [u8; 16]) -> Secrets
+    ensures { λ r. ⌜ r ≡ setNonces secrets na nb ⌝ }
+{
+    let mut drawn = secrets;
+    drawn.na = na;
+    drawn.nb = nb;
+    drawn
 }
 
 // The data is here: the peer's confirm must agree with it. Our secret counts only where the peer has our data.

@@ -1,15 +1,10 @@
 -- No second answer meets a contract of this crate: neither the step nor an octet of the outbox is left open. Assumes nothing.
-use mathlib.Core.List.{[]}
 use denote.Ref.{now}
-use Rattle.octets.proofs.Settles.{Unique, Settles}
+use Rattle.octets.proofs.Settles.{Settles}
 use Rattle.machine.proofs.Outcome.{only-met}
-use Rattle.passkey.proofs.hold.Reads as hold
 use Rattle.passkey.proofs.typing_event.Reads as typing-event
 use Rattle.passkey.proofs.confirm.Reads as confirm
 use Rattle.passkey.proofs.random.Reads as random
-
-pub hold-unique : Unique hold.Post
-hold-unique κs a z z′ e e′ p q = only-met (p []) (q []) .0
 
 pub typing-event-settled : Settles typing-event.Post (λ κs e. now (e .1 .1 .1 .1 .0))
 typing-event-settled κs a z z′ e e′ p q = only-met p q

@@ -10,22 +10,9 @@ use machine::Supplied;
 use rounds::Following;
 ghost use mathlib.Core.Path.{_≡_};
 ghost use Rattle.rounds.specs.Rounds.{afterOf};
-ghost use Rattle.machine.specs.Outcome.{Met, Quiet};
-ghost use Rattle.machine.specs.Passkey.{confirming, holdConfirmOf, typedOf, typingEvent, confirmOf, waits, randomOf};
-
-// A command in WaitingPassKeyInput: one early confirm is held.
-pub fn hold(state: State, held: bool, code: u8, payload: &[u8]) -> Step
-    ensures { λ r. ⌜ Quiet (holdConfirmOf state held code (now (payload .entry))) r ⌝ }
-{
-    holding::holds(
-        state,
-        held,
-        3,
-        code,
-        payload,
-        Phase::WaitingPassKeyInput(true),
-    )
-}
+ghost use Rattle.octets.specs.Octets.{same};
+ghost use Rattle.machine.specs.Outcome.{Met};
+ghost use Rattle.machine.specs.Passkey.{confirming, typedOf, typingEvent, confirmOf, waits, randomOf};
 
 // An event in WaitingPassKeyInput: the passkey, or the user's no.
 pub fn typing_event(
@@ -38,11 +25,9 @@ pub fn typing_event(
     ensures { λ r. ⌜ Met (typingEvent state held event supplied) r (now (out .entry)) (now (out .exit)) ⌝ }
 {
     match event {
-        Event::LinkEncryptedResult(_ok) => outcome::failed(state, Failure::InvalidState),
-        Event::PassKeyConfirm => outcome::failed(state, Failure::InvalidState),
         Event::PassKeyCancel => outcome::failed(state, Failure::PasskeyEntryFailed),
         Event::PassKeyInput(passkey) => typed(state, held, passkey, supplied, out),
-        Event::OobDataReceived => outcome::failed(state, Failure::InvalidState),
+        _ => outcome::failed(state, Failure::InvalidState),
     }
 }
 
@@ -91,10 +76,8 @@ pub fn random(
     if payload.len() != 16 {
         return outcome::failed(state, Failure::InvalidParameters);
     }
-    let mut secrets = state.secrets;
-    let ca = secrets.ca;
-    let f4 = supplied.f4;
-    if octets::equal16(ca, f4) {
+    if confirmed(state, supplied) {
+        let mut secrets = state.secrets;
         let nb = secrets.nb;
         let sent = frames::random(out, nb);
         let na = octets::reversed16(payload);
@@ -108,6 +91,16 @@ pub fn random(
         );
     }
     outcome::failed(state, Failure::ConfirmValueFailed)
+}
+
+// Whether the confirm kept for the round is the right one.
+fn confirmed(state: State, supplied: Supplied) -> bool
+    ensures { λ r. ⌜ r ≡ same (state .secrets .ca) (supplied .f4) ⌝ }
+{
+    let secrets = state.secrets;
+    let ca = secrets.ca;
+    let f4 = supplied.f4;
+    octets::equal16(ca, f4)
 }
 
 // The passkey was typed: it becomes both secrets, and a held confirm is round 0's.

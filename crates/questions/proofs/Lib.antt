@@ -1,2 +1,3 @@
+mod Other
 pub mod Asked
 pub mod Unique

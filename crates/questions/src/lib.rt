@@ -84,11 +84,8 @@ fn by_command(
     ensures { λ r. ⌜ r ≡ nextOf given (commandAsks phase state code (now (payload .entry)) supplied) ⌝ }
 {
     match phase {
-        Phase::WaitingPairingRequest => none(),
         Phase::WaitingPublicKey => key(state, code, payload, supplied, given),
         Phase::WaitingNumericComparisonRandom => comparison(state, code, payload, supplied, given),
-        Phase::WaitingNumericComparisonResult(_held) => none(),
-        Phase::WaitingPassKeyInput(_held) => none(),
         Phase::WaitingPassKeyEntryConfirm(round) => confirm(
             state,
             round,
@@ -105,14 +102,8 @@ fn by_command(
             supplied,
             given,
         ),
-        Phase::WaitingOobData => none(),
-        Phase::WaitingOobRandom => none(),
         Phase::WaitingDHKeyEa => check(state, code, payload, supplied, given),
-        Phase::WaitingLinkEncrypted => none(),
-        Phase::WaitingIdentitityInformation => none(),
-        Phase::WaitingIdentitityAddressInformation => none(),
-        Phase::Success => none(),
-        Phase::Error(_failure) => none(),
+        _ => none(),
     }
 }
 
@@ -127,21 +118,10 @@ fn by_event(
     ensures { λ r. ⌜ r ≡ nextOf given (eventAsks phase state came values supplied) ⌝ }
 {
     match phase {
-        Phase::WaitingPairingRequest => none(),
-        Phase::WaitingPublicKey => none(),
-        Phase::WaitingNumericComparisonRandom => none(),
         Phase::WaitingNumericComparisonResult(held) => compared(state, held, came, supplied, given),
         Phase::WaitingPassKeyInput(held) => typed(state, held, came, supplied, given),
-        Phase::WaitingPassKeyEntryConfirm(_round) => none(),
-        Phase::WaitingPassKeyEntryRandom(_round) => none(),
         Phase::WaitingOobData => received(state, came, values, given),
-        Phase::WaitingOobRandom => none(),
-        Phase::WaitingDHKeyEa => none(),
-        Phase::WaitingLinkEncrypted => none(),
-        Phase::WaitingIdentitityInformation => none(),
-        Phase::WaitingIdentitityAddressInformation => none(),
-        Phase::Success => none(),
-        Phase::Error(_failure) => none(),
+        _ => none(),
     }
 }
 
@@ -181,11 +161,7 @@ fn our_confirm(
     match method {
         PairingMethod::JustWorks => unless(given.f4, ask_f4(pkbx, x, nonce, 0)),
         PairingMethod::NumericComparison => unless(given.f4, ask_f4(pkbx, x, nonce, 0)),
-        PairingMethod::PassKeyEntry {
-            central: _central,
-            peripheral: _peripheral,
-        } => none(),
-        PairingMethod::OutOfBand => none(),
+        _ => none(),
     }
 }
 
@@ -213,12 +189,7 @@ fn compared_number(method: PairingMethod, state: State, na: [u8; 16], given: Giv
     let nb = secrets.nb;
     match method {
         PairingMethod::JustWorks => none(),
-        PairingMethod::NumericComparison => unless(given.g2, ask_g2(pkax, pkbx, na, nb)),
-        PairingMethod::PassKeyEntry {
-            central: _central,
-            peripheral: _peripheral,
-        } => unless(given.g2, ask_g2(pkax, pkbx, na, nb)),
-        PairingMethod::OutOfBand => unless(given.g2, ask_g2(pkax, pkbx, na, nb)),
+        _ => unless(given.g2, ask_g2(pkax, pkbx, na, nb)),
     }
 }
 
@@ -335,7 +306,6 @@ fn compared(state: State, held: bool, came: Event, supplied: Supplied, given: Gi
     ensures { λ r. ⌜ r ≡ nextOf given (comparisonAsks state held came supplied) ⌝ }
 {
     match came {
-        Event::LinkEncryptedResult(_ok) => none(),
         Event::PassKeyConfirm => {
             if held {
                 let secrets = state.secrets;
@@ -344,9 +314,7 @@ fn compared(state: State, held: bool, came: Event, supplied: Supplied, given: Gi
             }
             none()
         }
-        Event::PassKeyCancel => none(),
-        Event::PassKeyInput(_passkey) => none(),
-        Event::OobDataReceived => none(),
+        _ => none(),
     }
 }
 
@@ -355,16 +323,13 @@ fn typed(state: State, held: bool, came: Event, supplied: Supplied, given: Given
     ensures { λ r. ⌜ r ≡ nextOf given (typingAsks state held came supplied) ⌝ }
 {
     match came {
-        Event::LinkEncryptedResult(_ok) => none(),
-        Event::PassKeyConfirm => none(),
-        Event::PassKeyCancel => none(),
         Event::PassKeyInput(passkey) => {
             if held {
                 return round_confirm(state, passkey, 0, supplied, given);
             }
             none()
         }
-        Event::OobDataReceived => none(),
+        _ => none(),
     }
 }
 
@@ -373,11 +338,8 @@ fn received(state: State, came: Event, values: OobData, given: Given) -> Questio
     ensures { λ r. ⌜ r ≡ nextOf given (receivedAsks state came values) ⌝ }
 {
     match came {
-        Event::LinkEncryptedResult(_ok) => none(),
-        Event::PassKeyConfirm => none(),
-        Event::PassKeyCancel => none(),
-        Event::PassKeyInput(_passkey) => none(),
         Event::OobDataReceived => peer_data(state, values, given),
+        _ => none(),
     }
 }
 

@@ -10,13 +10,10 @@ returns-2 : tie.Need-returns-2
 returns-2 c = rw (c .before .before .before .before .enum-told2 .given .1) (c .before .before .compare2 .ensures)
 
 returns-3 : tie.Need-returns-3
-returns-3 c = rw (c .before .before .before .before .before .before .before .method .given .1, c .before .before .before .before .enum-told3 .given .1) (c .before .before .show .ensures)
+returns-3 c = rw (c .before .before .before .before .before .method .given .1) (c .before .before .enter .ensures)
 
 returns-4 : tie.Need-returns-4
-returns-4 c = rw (c .before .before .before .before .before .before .before .method .given .1, c .before .before .before .before .enum-told4 .given .1) (c .before .before .send-key .ensures)
-
-returns-5 : tie.Need-returns-5
-returns-5 c = rw (c .before .before .before .before .enum-told5 .given .1) (c .before .before .send-key2 .ensures)
+returns-4 c = rw (c .before .before .before .before .enum-told3 .given .1) (c .before .before .send-key .ensures)
 
 pub begin-spec : {M : Type 1} → statement M
 begin-spec =
@@ -24,9 +21,6 @@ begin-spec =
     (tie.spec
     (λ c. search needs)
     (λ c κs. search needs)
-    (λ c. search needs)
-    (λ c κs. search needs)
-    (λ c. search needs)
     (λ c. search needs)
     (λ c κs. search needs)
     (λ c. search needs)
@@ -40,6 +34,4 @@ begin-spec =
     (λ c. search needs)
     returns-3
     (λ c. search needs)
-    returns-4
-    (λ c. search needs)
-    returns-5)
+    returns-4)

@@ -4,7 +4,7 @@ use native.Mathlib.Omega.{arith}
 use lib.ListN.{length, take}
 use lib.Seq.{length-take-le}
 use Rattle.octets.proofs.Octets.{turned-whole}
-use Rattle.machine.proofs.Outcome.{passes, fails, wrong-code, wrong-size, expected}
+use Rattle.machine.proofs.Outcome.{wrong-code, wrong-size, expected}
 use borrow.Author.Needs.{needs}
 use Rattle.exchange.proofs.public_key.Statement.{statement}
 use Rattle.exchange.proofs.public_key.Tie as tie
@@ -17,16 +17,10 @@ returns-2 c = wrong-size _ _ _ _ _ _ _ _ (c .before .before .if1 .left) (c .befo
 
 returns-3 : tie.Need-returns-3
 returns-3 c =
-    let body = c .before .before .before .before .before .before .before .before .before .before .before .before .args .payload .now in
-    let half : length (take 32 body) ≡ 32 = length-take-le 32 body (omega (arith, c .before .before .before .before .before .before .before .before .if2 .left)) in
-    expected _ _ _ _ _ _ _ _ (c .before .before .before .before .before .before .before .before .before .if1 .left) (c .before .before .before .before .before .before .before .before .if2 .left)
-    (passes _ _ _ _ _ (c .before .before .before .before .before .before .before .if3 .taken)
-    (rw (← (c .before .before .before .before .before .peer-x .ensures ∙ turned-whole 32 (take 32 body) half), ← c .before .before .before .before .fresh-secrets .ensures) (c .before .before .begin .ensures)))
-
-returns-4 : tie.Need-returns-4
-returns-4 c =
-    expected _ _ _ _ _ _ _ _ (c .before .before .before .if1 .left) (c .before .before .if2 .left)
-    (fails _ _ _ _ _ (c .before .if3 .left) (c .failed3 .ensures) _)
+    let body = c .before .before .before .before .before .before .before .before .before .args .payload .now in
+    let half : length (take 32 body) ≡ 32 = length-take-le 32 body (omega (arith, c .before .before .before .before .before .if2 .left)) in
+    expected _ _ _ _ _ _ _ _ (c .before .before .before .before .before .before .if1 .left) (c .before .before .before .before .before .if2 .left)
+    (rw (← (c .before .before .before .before .peer-x .ensures ∙ turned-whole 32 (take 32 body) half)) (c .before .before .keyed .ensures))
 
 pub public-key-spec : {M : Type 1} → statement M
 public-key-spec =
@@ -38,8 +32,5 @@ public-key-spec =
     returns-2
     (λ c κs. search needs)
     (λ c κs. search needs)
-    (λ c κs. search needs)
     (λ c. search needs)
-    returns-3
-    (λ c κs. search needs)
-    returns-4)
+    returns-3)

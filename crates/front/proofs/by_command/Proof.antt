@@ -14,13 +14,13 @@ returns-3 : tie.Need-returns-3
 returns-3 c = rw (c .before .before .before .before .enum-told3 .given .1) (c .before .before .comparison-random .ensures)
 
 returns-4 : tie.Need-returns-4
-returns-4 c = rw (c .before .before .phase .given .1) (c .hold .ensures _)
+returns-4 c = rw (c .before .before .phase .given .1) (c .check .ensures _)
 
 returns-5 : tie.Need-returns-5
-returns-5 c = rw (c .before .before .phase2 .given .1) (c .hold2 .ensures _)
+returns-5 c = rw (c .before .before .phase2 .given .1) (c .confirm .ensures _)
 
 returns-6 : tie.Need-returns-6
-returns-6 c = rw (c .before .before .before .before .before .phase3 .given .1) (c .before .before .confirm .ensures)
+returns-6 c = rw (c .before .before .before .before .before .phase3 .given .1) (c .before .before .confirm2 .ensures)
 
 returns-7 : tie.Need-returns-7
 returns-7 c = rw (c .before .before .before .before .before .phase4 .given .1) (c .before .before .random .ensures)
@@ -32,7 +32,7 @@ returns-9 : tie.Need-returns-9
 returns-9 c = rw (c .before .before .before .before .enum-told5 .given .1) (c .before .before .oob-random .ensures)
 
 returns-10 : tie.Need-returns-10
-returns-10 c = rw (c .before .before .before .before .enum-told6 .given .1) (c .before .before .check .ensures)
+returns-10 c = rw (c .before .before .before .before .enum-told6 .given .1) (c .before .before .check2 .ensures)
 
 returns-11 : tie.Need-returns-11
 returns-11 c = rw (c .before .enum-told7 .given .1) (met-failing _ _ _ _ (c .failed2 .ensures) _)

@@ -1,5 +1,6 @@
 -- `numeric::compare` meets its contract. Assumes nothing.
 use Rattle.machine.proofs.Outcome.{met-goes}
+use Rattle.numeric.proofs.Other.{compares-other}
 use borrow.Author.Needs.{needs}
 use Rattle.numeric.proofs.compare.Statement.{statement}
 use Rattle.numeric.proofs.compare.Tie as tie
@@ -8,13 +9,7 @@ returns : tie.Need-returns
 returns c = rw (c .before .enum-told .given .1) (met-goes _ _ _ _ _ (c .goes .ensures) (c .before .before .before .before .before .random .ensures))
 
 returns-2 : tie.Need-returns-2
-returns-2 c = rw (c .before .enum-told2 .given .1) (met-goes _ _ _ _ _ (c .goes2 .ensures) (c .before .before .before .before .before .random .ensures))
-
-returns-3 : tie.Need-returns-3
-returns-3 c = rw (c .before .before .method .given .1) (met-goes _ _ _ _ _ (c .goes3 .ensures) (c .before .before .before .before .before .before .random .ensures))
-
-returns-4 : tie.Need-returns-4
-returns-4 c = rw (c .before .enum-told3 .given .1) (met-goes _ _ _ _ _ (c .goes4 .ensures) (c .before .before .before .before .before .random .ensures))
+returns-2 c = rw (compares-other _ _ _ _ (c .before .match .keys2)) (met-goes _ _ _ _ _ (c .goes2 .ensures) (c .before .before .before .before .random .ensures))
 
 pub compare-spec : {M : Type 1} → statement M
 compare-spec =
@@ -23,17 +18,8 @@ compare-spec =
     (λ c κs. search needs)
     (λ c. search needs)
     (λ c κs. search needs)
-    (λ c. search needs)
-    (λ c κs. search needs)
-    (λ c. search needs)
-    (λ c κs. search needs)
-    (λ c. search needs)
     (λ c κs. search needs)
     (λ c. search needs)
     returns
     (λ c. search needs)
-    returns-2
-    (λ c. search needs)
-    returns-3
-    (λ c. search needs)
-    returns-4)
+    returns-2)

@@ -1,40 +1,17 @@
 -- `oob::oob_event` meets its contract. Assumes nothing.
 use Rattle.machine.proofs.Outcome.{met-failing}
+use Rattle.oob.proofs.Other.{oob-other}
 use borrow.Author.Needs.{needs}
 use Rattle.oob.proofs.oob_event.Statement.{statement}
 use Rattle.oob.proofs.oob_event.Tie as tie
 
 returns : tie.Need-returns
-returns c = rw (c .before .before .event .given .1) (met-failing _ _ _ _ (c .failed .ensures))
+returns c = rw (c .before .enum-told .given .1) (c .received .ensures)
 
 returns-2 : tie.Need-returns-2
-returns-2 c = rw (c .before .enum-told .given .1) (met-failing _ _ _ _ (c .failed2 .ensures))
-
-returns-3 : tie.Need-returns-3
-returns-3 c = rw (c .before .enum-told2 .given .1) (met-failing _ _ _ _ (c .failed3 .ensures))
-
-returns-4 : tie.Need-returns-4
-returns-4 c = rw (c .before .before .event2 .given .1) (met-failing _ _ _ _ (c .failed4 .ensures))
-
-returns-5 : tie.Need-returns-5
-returns-5 c = rw (c .before .enum-told3 .given .1) (c .received .ensures)
+returns-2 c = rw (oob-other _ _ _ _ (c .before .match .keys2)) (met-failing _ _ _ _ (c .failed .ensures))
 
 pub oob-event-spec : {M : Type 1} → statement M
 oob-event-spec =
     tie.close
-    (tie.spec
-    (λ c. search needs)
-    (λ c κs. search needs)
-    (λ c. search needs)
-    (λ c κs. search needs)
-    (λ c. search needs)
-    (λ c κs. search needs)
-    (λ c. search needs)
-    (λ c κs. search needs)
-    (λ c. search needs)
-    (λ c κs. search needs)
-    returns
-    returns-2
-    returns-3
-    returns-4
-    returns-5)
+    (tie.spec (λ c. search needs) (λ c κs. search needs) (λ c κs. search needs) returns returns-2)

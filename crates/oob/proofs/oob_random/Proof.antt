@@ -14,8 +14,8 @@ returns-2 c = wrong-size _ _ _ _ _ _ _ _ (c .before .before .if1 .left) (c .befo
 
 returns-3 : tie.Need-returns-3
 returns-3 c =
-    expected _ _ _ _ _ _ _ _ (c .before .before .before .before .before .before .before .before .before .if1 .left) (c .before .before .before .before .before .before .before .before .if2 .left)
-    (rw (← (c .before .before .before .before .before .before .before .reversed16 .ensures ∙ turned-whole 16 _ (c .before .before .before .before .before .before .before .before .if2 .left))) (met-goes _ _ _ _ _ (c .goes .ensures) (c .before .before .before .before .random .ensures)))
+    expected _ _ _ _ _ _ _ _ (c .before .before .before .before .before .before .before .before .before .before .if1 .left) (c .before .before .before .before .before .before .before .before .before .if2 .left)
+    (rw (← (c .before .before .before .before .before .before .before .before .reversed16 .ensures ∙ turned-whole 16 _ (c .before .before .before .before .before .before .before .before .before .if2 .left)), ← c .before .with-nonces .ensures) (met-goes _ _ _ _ _ (c .goes .ensures) (c .before .before .before .before .before .random .ensures)))
 
 pub oob-random-spec : {M : Type 1} → statement M
 oob-random-spec =
@@ -25,6 +25,7 @@ oob-random-spec =
     returns
     (λ c κs. search needs)
     returns-2
+    (λ c κs. search needs)
     (λ c κs. search needs)
     (λ c κs. search needs)
     (λ c κs. search needs)

@@ -14,15 +14,15 @@ returns-2 c = wrong-size _ _ _ _ _ _ _ _ (c .before .before .if1 .left) (c .befo
 
 returns-3 : tie.Need-returns-3
 returns-3 c =
-    expected _ _ _ _ _ _ _ _ (c .before .before .before .before .before .before .before .before .before .before .before .before .before .before .if1 .left) (c .before .before .before .before .before .before .before .before .before .before .before .before .before .if2 .left)
-    (passes _ _ _ _ _ (sym (c .before .before .before .before .before .before .before .before .before .equal16 .ensures) ∙ c .before .before .before .before .before .before .before .before .if3 .taken)
-    (rw (← (c .before .before .reversed16 .ensures ∙ turned-whole 16 _ (c .before .before .before .before .before .before .before .before .before .before .before .before .before .if2 .left)), ← c .before .behind .ensures)
+    expected _ _ _ _ _ _ _ _ (c .before .before .before .before .before .before .before .before .before .before .before .before .if1 .left) (c .before .before .before .before .before .before .before .before .before .before .before .if2 .left)
+    (passes _ _ _ _ _ (sym (c .before .before .before .before .before .before .before .before .before .before .confirmed .ensures) ∙ c .before .before .before .before .before .before .before .before .before .if3 .taken)
+    (rw (← (c .before .before .reversed16 .ensures ∙ turned-whole 16 _ (c .before .before .before .before .before .before .before .before .before .before .before .if2 .left)), ← c .before .behind .ensures)
     (met-goes _ _ _ _ _ (c .goes .ensures) (c .before .before .before .before .before .random .ensures))))
 
 returns-4 : tie.Need-returns-4
 returns-4 c =
-    expected _ _ _ _ _ _ _ _ (c .before .before .before .before .before .before .before .if1 .left) (c .before .before .before .before .before .before .if2 .left)
-    (fails _ _ _ _ _ (sym (c .before .before .equal16 .ensures) ∙ c .before .if3 .left) (c .failed3 .ensures) _)
+    expected _ _ _ _ _ _ _ _ (c .before .before .before .before .if1 .left) (c .before .before .before .if2 .left)
+    (fails _ _ _ _ _ (sym (c .before .before .confirmed .ensures) ∙ c .before .if3 .left) (c .failed3 .ensures) _)
 
 pub random-spec : {M : Type 1} → statement M
 random-spec =

@@ -1,5 +1,6 @@
 -- `questions::our_confirm` meets its contract. Assumes nothing.
 use Rattle.machine.specs.Questions.{nextOf}
+use Rattle.questions.proofs.Other.{key-other}
 use borrow.Author.Needs.{needs}
 use Rattle.questions.proofs.our_confirm.Statement.{statement}
 use Rattle.questions.proofs.our_confirm.Tie as tie
@@ -14,11 +15,7 @@ returns-2 c = rw (c .before .before .enum-told2 .given .1) (rw (c .before .ask-f
 
 returns-3 : tie.Need-returns-3
 unfolding nextOf
-returns-3 c = rw (c .before .before .method .given .1) (c .none .ensures)
-
-returns-4 : tie.Need-returns-4
-unfolding nextOf
-returns-4 c = rw (c .before .enum-told3 .given .1) (c .none2 .ensures)
+returns-3 c = let a = c .before .before .before .before .before .args in rw (key-other (a .method) (a .state) (a .x) (a .supplied) (c .before .match .keys3)) (c .none .ensures)
 
 pub our-confirm-spec : {M : Type 1} → statement M
 our-confirm-spec =
@@ -30,11 +27,7 @@ our-confirm-spec =
     (λ c. search needs)
     (λ c κs. search needs)
     (λ c κs. search needs)
-    (λ c. search needs)
-    (λ c κs. search needs)
-    (λ c. search needs)
     (λ c κs. search needs)
     returns
     returns-2
-    returns-3
-    returns-4)
+    returns-3)

@@ -1,0 +1,38 @@
+-- What the last arm of a match takes: any event but a yes and a no is not listed, and every method but Just Works shows a number. Assumes nothing.
+use Prim.Native.Nat.{ℕ}
+use Prim.{tt}
+use mathlib.Core.Path.{_≡_, refl}
+use mathlib.Core.List.{List, [], _∷_}
+use mathlib.Core.Bool.{Bool}
+use types.Run.{OneOf, miss}
+use denote.Enum.Declared.{tagOf}
+use Rattle.method.specs.declared.PairingMethod.{PairingMethod}
+use Rattle.method.specs.declared.PairingMethod.the-variants.{JustWorks, NumericComparison, PassKeyEntry, OutOfBand}
+use Rattle.method.proofs.PairingMethod as method
+use Rattle.machine.specs.declared.State.{State}
+use Rattle.machine.specs.declared.Supplied.{Supplied}
+use Rattle.machine.specs.declared.Event.{Event}
+use Rattle.machine.specs.declared.Event.the-variants as I
+use Rattle.machine.proofs.Event as event
+use Rattle.machine.specs.Outcome.{unlisted}
+use Rattle.machine.specs.Numeric.{compares, comparisonEvent}
+
+-- the places, in the enum, of what the arm takes
+abbrev comparison-rest : List ℕ
+comparison-rest = 0 ∷ 3 ∷ 4 ∷ []
+
+pub comparison-other : (m : State) (held : Bool) (x : Event) (a : Supplied) → OneOf comparison-rest (tagOf event.the-type x) → comparisonEvent m held x a ≡ unlisted m
+comparison-other m held (I.LinkEncryptedResult ok) a k = refl
+comparison-other m held I.PassKeyConfirm a k = absurd (miss comparison-rest 1 tt k)
+comparison-other m held I.PassKeyCancel a k = absurd (miss comparison-rest 2 tt k)
+comparison-other m held (I.PassKeyInput p) a k = refl
+comparison-other m held I.OobDataReceived a k = refl
+
+abbrev compares-rest : List ℕ
+compares-rest = 1 ∷ 2 ∷ 3 ∷ []
+
+pub compares-other : (x : PairingMethod) (m : State) (na : List ℕ) (g2 : ℕ) → OneOf compares-rest (tagOf method.the-type x) → compares x m na g2 ≡ compares NumericComparison m na g2
+compares-other JustWorks m na g2 k = absurd (miss compares-rest 0 tt k)
+compares-other NumericComparison m na g2 k = refl
+compares-other (PassKeyEntry central peripheral) m na g2 k = refl
+compares-other OutOfBand m na g2 k = refl

@@ -1,0 +1,26 @@
+-- What the last arm of a match takes: any event but a passkey and a no is not listed. Assumes nothing.
+use Prim.Native.Nat.{ℕ}
+use Prim.{tt}
+use mathlib.Core.Path.{_≡_, refl}
+use mathlib.Core.List.{List, [], _∷_}
+use mathlib.Core.Bool.{Bool}
+use types.Run.{OneOf, miss}
+use denote.Enum.Declared.{tagOf}
+use Rattle.machine.specs.declared.State.{State}
+use Rattle.machine.specs.declared.Supplied.{Supplied}
+use Rattle.machine.specs.declared.Event.{Event}
+use Rattle.machine.specs.declared.Event.the-variants as I
+use Rattle.machine.proofs.Event.{the-type}
+use Rattle.machine.specs.Outcome.{unlisted}
+use Rattle.machine.specs.Passkey.{typingEvent}
+
+-- the places, in the enum, of what the arm takes
+abbrev rest : List ℕ
+rest = 0 ∷ 1 ∷ 4 ∷ []
+
+pub typing-other : (m : State) (held : Bool) (x : Event) (a : Supplied) → OneOf rest (tagOf the-type x) → typingEvent m held x a ≡ unlisted m
+typing-other m held (I.LinkEncryptedResult ok) a k = refl
+typing-other m held I.PassKeyConfirm a k = refl
+typing-other m held I.PassKeyCancel a k = absurd (miss rest 2 tt k)
+typing-other m held (I.PassKeyInput p) a k = absurd (miss rest 3 tt k)
+typing-other m held I.OobDataReceived a k = refl
