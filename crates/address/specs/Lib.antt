@@ -1,1 +1,2 @@
+-- The definitions of `address`, file by file.
 pub mod Identity

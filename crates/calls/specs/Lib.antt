@@ -1,2 +1,3 @@
+-- The definitions of `calls`, file by file.
 pub mod Header
 pub mod Answer

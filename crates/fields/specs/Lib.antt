@@ -1,1 +1,2 @@
+-- The definitions of `fields`, file by file.
 pub mod Fields

@@ -1,1 +1,2 @@
+-- The definitions of `frames`, file by file.
 pub mod Frames

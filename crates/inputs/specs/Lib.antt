@@ -1,1 +1,2 @@
+-- The definitions of `inputs`, file by file.
 pub mod Input

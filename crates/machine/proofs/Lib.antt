@@ -1,3 +1,4 @@
+-- The theorems on the machine, file by file.
 pub mod Outcome
 pub mod Ends
 pub mod Refusals

@@ -1,2 +1,3 @@
+-- The definitions of `method`, file by file.
 pub mod Method
 pub mod Samples

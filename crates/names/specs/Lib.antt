@@ -1,1 +1,2 @@
+-- The definitions of `names`, file by file.
 pub mod Names

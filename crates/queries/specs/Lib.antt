@@ -1,1 +1,2 @@
+-- The definitions of `queries`, file by file.
 pub mod Result

@@ -1,1 +1,2 @@
+-- The definitions of `setups`, file by file.
 pub mod Setup

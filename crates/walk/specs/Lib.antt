@@ -1,1 +1,2 @@
+-- The definitions of `walk`, file by file.
 pub mod Frames

@@ -1,1 +1,2 @@
+-- The definitions of `wrapper`, file by file.
 pub mod Starts
