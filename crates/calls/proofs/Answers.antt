@@ -2,10 +2,10 @@
 use mathlib.Core.Path.{_≡_, sym, ap, _∙_}
 use Prim.Native.Nat.{ℕ}
 use borrow.Author.Tests.{eq-eqb, ne-eqb}
-use Rattle.machine.specs.Numbers.{failureNumber, refusalNumber}
-use Rattle.machine.specs.declared.Failure.{Failure}
-use Rattle.machine.specs.declared.Refusal.{Refusal}
-use Rattle.machine.specs.declared.Answer.the-variants.{Failed, Refused}
+use Rattle.protocol.specs.Numbers.{failureNumber, refusalNumber}
+use Rattle.protocol.specs.declared.Failure.{Failure}
+use Rattle.protocol.specs.declared.Refusal.{Refusal}
+use Rattle.protocol.specs.declared.Answer.the-variants.{Failed, Refused}
 use Rattle.calls.specs.declared.ReadAnswer.the-variants.{Fits, Misfit}
 use Rattle.calls.specs.Answer.{failureOf, refusalOf, failedOf, refusedOf}
 

@@ -9,13 +9,13 @@ use lib.ListN.{length, getD}
 use lib.Seq.{take-all}
 use lib.Dec.{eqb}
 use borrow.Author.Tests.{eq-eqb, ne-eqb, le-leb, eqb-true}
-use Rattle.machine.specs.Numbers.{failureNumber, refusalNumber}
-use Rattle.machine.specs.declared.Failure.{Failure}
-use Rattle.machine.specs.declared.Failure.the-variants as F
-use Rattle.machine.specs.declared.Refusal.{Refusal}
-use Rattle.machine.specs.declared.Refusal.the-variants as R
-use Rattle.machine.specs.declared.Answer.{Answer}
-use Rattle.machine.specs.declared.Answer.the-variants.{Taken, Failed, Refused}
+use Rattle.protocol.specs.Numbers.{failureNumber, refusalNumber}
+use Rattle.protocol.specs.declared.Failure.{Failure}
+use Rattle.protocol.specs.declared.Failure.the-variants as F
+use Rattle.protocol.specs.declared.Refusal.{Refusal}
+use Rattle.protocol.specs.declared.Refusal.the-variants as R
+use Rattle.protocol.specs.declared.Answer.{Answer}
+use Rattle.protocol.specs.declared.Answer.the-variants.{Taken, Failed, Refused}
 use Rattle.fields.specs.Fields.{little, number, numberAt, join}
 use Rattle.fields.proofs.Cut.{row-eq, join-cut, number-two, Below, number-row}
 use Rattle.calls.specs.declared.Kind.{Kind}

@@ -1,15 +1,15 @@
 // The DHKey check (Part H 2.3.5.6.5): the step of WaitingDHKeyEa, and of a check that came early.
-use machine::Action;
-use machine::ActionKind;
-use machine::Answer;
-use machine::Bond;
-use machine::ConnectionEvent;
-use machine::Failure;
-use machine::MaybeBond;
 use machine::Phase;
 use machine::State;
 use machine::Step;
-use machine::Supplied;
+use protocol::Action;
+use protocol::ActionKind;
+use protocol::Answer;
+use protocol::Bond;
+use protocol::ConnectionEvent;
+use protocol::Failure;
+use protocol::MaybeBond;
+use protocol::Supplied;
 ghost use mathlib.Core.Path.{_≡_};
 ghost use Rattle.machine.specs.Outcome.{Met};
 ghost use Rattle.machine.specs.Check.{newBond, checking, checkOf};

@@ -1,15 +1,15 @@
 // The exchange of public keys (Part H 2.3.5.6.1): the step of WaitingPublicKey, and the first move of each method.
-use machine::Configured;
-use machine::ConnectionEvent;
-use machine::Failure;
 use machine::Phase;
-use machine::Refusal;
-use machine::Secrets;
 use machine::State;
 use machine::Step;
-use machine::Supplied;
 use method::PairingMethod;
 use method::PassKeyEntryAction;
+use protocol::Configured;
+use protocol::ConnectionEvent;
+use protocol::Failure;
+use protocol::Refusal;
+use protocol::Secrets;
+use protocol::Supplied;
 ghost use Rattle.machine.specs.Outcome.{Met, to, need, goes};
 ghost use Rattle.machine.specs.Secrets.{fresh};
 ghost use Rattle.machine.specs.Exchange.{ourKey, comparing, showing, shown, begins, keyOf};

@@ -3,10 +3,10 @@ use Prim.Native.Nat.{ℕ}
 use mathlib.Core.Path.{_≡_}
 use mathlib.Core.List.{List}
 use mathlib.Core.Bool.{Bool}
-use Rattle.machine.specs.declared.Event.{Event}
-use Rattle.machine.specs.declared.OobData.{OobData}
+use Rattle.protocol.specs.declared.Event.{Event}
+use Rattle.protocol.specs.declared.OobData.{OobData}
+use Rattle.protocol.specs.declared.Supplied.{Supplied}
 use Rattle.machine.specs.declared.State.{State}
-use Rattle.machine.specs.declared.Supplied.{Supplied}
 use Rattle.machine.specs.Outcome.{Outcome, refused}
 use Rattle.machine.specs.Step.{Call, command, event, front}
 use Rattle.front.specs.declared.Gate.{Gate}

@@ -1,12 +1,12 @@
 // The front of a call, where refusals are tested before any step, and behind it the step of each phase.
-use machine::Event;
-use machine::Failure;
-use machine::OobData;
 use machine::Phase;
-use machine::Refusal;
 use machine::State;
 use machine::Step;
-use machine::Supplied;
+use protocol::Event;
+use protocol::Failure;
+use protocol::OobData;
+use protocol::Refusal;
+use protocol::Supplied;
 ghost use lib.ListN.{length};
 ghost use Rattle.machine.specs.Outcome.{Met};
 ghost use Rattle.machine.specs.Step.{command, event, onCommand, onEvent, taking, step};

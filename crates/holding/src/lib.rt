@@ -1,9 +1,9 @@
 // An early payload: a confirm that comes before the passkey is typed, a DHKey check before the user's answer.
-use machine::ConnectionEvent;
-use machine::Failure;
 use machine::Phase;
 use machine::State;
 use machine::Step;
+use protocol::ConnectionEvent;
+use protocol::Failure;
 ghost use Rattle.machine.specs.Outcome.{Quiet};
 ghost use Rattle.machine.specs.Hold.{holding};
 ghost use Rattle.machine.specs.Passkey.{holdConfirmOf};

@@ -8,9 +8,9 @@ use lib.ListN.{length, take, drop, getD, length-append, length-drop, take-append
 use lib.Seq.{take-all, take-add, drop-at}
 use lib.Dec.{eqb, leb}
 use borrow.Author.Tests.{eq-eqb, ne-eqb, le-leb, eqb-true, leb-true}
-use Rattle.machine.specs.declared.Event.{Event}
-use Rattle.machine.specs.declared.Event.the-variants.{LinkEncryptedResult, PassKeyConfirm, PassKeyCancel, PassKeyInput, OobDataReceived}
-use Rattle.machine.specs.declared.Given.{Given}
+use Rattle.protocol.specs.declared.Event.{Event}
+use Rattle.protocol.specs.declared.Event.the-variants.{LinkEncryptedResult, PassKeyConfirm, PassKeyCancel, PassKeyInput, OobDataReceived}
+use Rattle.protocol.specs.declared.Given.{Given}
 use Rattle.fields.specs.Fields.{little, number, numberAt, field, flagNumber, one, join}
 use Rattle.fields.proofs.Cut.{cutAt, lengths, total, row-eq, cut-join, join-cut, length-join, field-there, byte-of, byte-row, number-two, number-four, Below, number-row, test-none, test-first, test-at}
 use Rattle.fields.proofs.Flags.{flag-back, flag-small, flag-number}

@@ -5,10 +5,10 @@ use mathlib.Core.List.{List, [], _∷_, _++_}
 use mathlib.Core.Bool.{Bool, true, false, cond}
 use lib.ListN.{length, getD}
 use lib.Dec.{eqb, leb}
-use Rattle.machine.specs.declared.Event.{Event}
-use Rattle.machine.specs.declared.Event.the-variants.{LinkEncryptedResult, PassKeyConfirm, PassKeyCancel, PassKeyInput, OobDataReceived}
-use Rattle.machine.specs.declared.Given.{Given}
-use Rattle.machine.specs.declared.Supplied.{Supplied}
+use Rattle.protocol.specs.declared.Event.{Event}
+use Rattle.protocol.specs.declared.Event.the-variants.{LinkEncryptedResult, PassKeyConfirm, PassKeyCancel, PassKeyInput, OobDataReceived}
+use Rattle.protocol.specs.declared.Given.{Given}
+use Rattle.protocol.specs.declared.Supplied.{Supplied}
 use Rattle.inputs.specs.declared.Call.{Call}
 use Rattle.inputs.specs.declared.ReadCommand.{ReadCommand}
 use Rattle.inputs.specs.declared.EventCall.{EventCall}

@@ -1,9 +1,9 @@
 // Commands and events as bytes: the payloads of docs/CALLS.md, kinds 2 and 3, read and written. Both begin with the outbox's length and the
 // supplied values. Reading says whether a payload fits its kind; writing refuses what no payload can carry.
-use machine::Event;
-use machine::Given;
-use machine::OobData;
-use machine::Supplied;
+use protocol::Event;
+use protocol::Given;
+use protocol::OobData;
+use protocol::Supplied;
 ghost use mathlib.Core.Path.{_≡_};
 ghost use mathlib.Core.List.{_∷_, _++_};
 ghost use Prim.Native.Nat.{_≤_};

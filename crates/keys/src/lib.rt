@@ -1,12 +1,12 @@
 // The peer's identity keys (Part H 3.6.1, 3.6.4, 3.6.5): the steps of WaitingIdentitityInformation and
 // WaitingIdentitityAddressInformation.
 use address::Address;
-use machine::ConnectionEvent;
-use machine::Failure;
-use machine::MaybeBond;
 use machine::Phase;
 use machine::State;
 use machine::Step;
+use protocol::ConnectionEvent;
+use protocol::Failure;
+use protocol::MaybeBond;
 ghost use mathlib.Core.Path.{_≡_};
 ghost use Rattle.machine.specs.Outcome.{Quiet};
 ghost use Rattle.machine.specs.Keys.{withIrk, withAddress, identityInformationOf, identityAddressOf};

@@ -1,11 +1,11 @@
 // The encrypted link, and our identity keys that go over it (Part H 2.4.3.1, 3.6.1): the step of WaitingLinkEncrypted, and a bonded link
 // that is encrypted before any request.
-use machine::ConnectionEvent;
-use machine::Event;
-use machine::Failure;
 use machine::Phase;
 use machine::State;
 use machine::Step;
+use protocol::ConnectionEvent;
+use protocol::Event;
+use protocol::Failure;
 ghost use mathlib.Core.Path.{_≡_};
 ghost use Rattle.octets.specs.Write.{Wrote};
 ghost use Rattle.machine.specs.Outcome.{Met};

@@ -15,23 +15,23 @@ use Rattle.features.proofs.Features.{encode-decode}
 use Rattle.frames.specs.Frames.{frame, pairingResponse}
 use Rattle.method.specs.declared.PairingMethod.{PairingMethod}
 use Rattle.method.specs.declared.PairingMethod.the-variants.{JustWorks, NumericComparison, PassKeyEntry, OutOfBand}
-use Rattle.machine.specs.declared.Failure.{Failure}
-use Rattle.machine.specs.declared.Answer.the-variants as A
+use Rattle.protocol.specs.declared.Failure.{Failure}
+use Rattle.protocol.specs.declared.Answer.the-variants as A
+use Rattle.protocol.specs.declared.Event.{Event}
+use Rattle.protocol.specs.declared.Event.the-variants as I
+use Rattle.protocol.specs.declared.OobData.{OobData}
+use Rattle.protocol.specs.declared.Supplied.{Supplied}
+use Rattle.protocol.specs.declared.QuestionKind.{QuestionKind}
+use Rattle.protocol.specs.declared.Question.{Question}
+use Rattle.protocol.specs.declared.Given.{Given}
+use Rattle.protocol.specs.declared.Acceptance.the-variants.{Accepted}
 use Rattle.machine.specs.declared.Phase.{Phase}
 use Rattle.machine.specs.declared.Phase.the-variants as P
-use Rattle.machine.specs.declared.Event.{Event}
-use Rattle.machine.specs.declared.Event.the-variants as I
-use Rattle.machine.specs.declared.OobData.{OobData}
 use Rattle.machine.specs.declared.State.{State}
-use Rattle.machine.specs.declared.Supplied.{Supplied}
-use Rattle.machine.specs.declared.QuestionKind.{QuestionKind}
-use Rattle.machine.specs.declared.Question.{Question}
-use Rattle.machine.specs.declared.Given.{Given}
 use Rattle.machine.specs.Outcome.{at, finishedPhase}
-use Rattle.machine.specs.declared.Acceptance.the-variants.{Accepted}
 use Rattle.machine.specs.Request.{acceptOf, requested, localFeatures}
 use Rattle.machine.specs.Step.{Input, command, event, Call, ranged, step}
-use Rattle.machine.specs.Questions.{askDh, askLtk, askEa, askEb, keyAsks, checkAsks, comparisonAsks, typingAsks, commandAsks, eventAsks, inputAsks, questions, nextOf}
+use Rattle.machine.specs.Questions.{askDh, askLtk, askPeerCheck, askOwnCheck, keyAsks, checkAsks, comparisonAsks, typingAsks, commandAsks, eventAsks, inputAsks, questions, nextOf}
 use Rattle.machine.specs.Refusals.{ReadsPasskey, reads}
 use Rattle.machine.specs.Failures.{byAnswer, Asked, kinds}
 use Rattle.machine.specs.Reading.{sofar}
@@ -84,8 +84,8 @@ module _ (m : State) (cmd : List ℕ) (a : Supplied) where
   invalid-asks-dh v k n = rw (nonempty cmd (omega arith), eq-eqb (getD cmd 0 0) 0x0C k, eq-eqb (length (drop 1 cmd)) 64 n, v)
 
   -- f5 and the peer's f6 alone where the check is not sixteen octets, or not the right ones
-  pub wrong-asks-two : getD cmd 0 0 ≡ 0x0D → eqb (length (drop 1 cmd)) 16 && same (flip (drop 1 cmd)) (a .ea) ≡ false
-      → questions (at m P.WaitingDHKeyEa) (command cmd) a ≡ askLtk m ∷ askEa m a ∷ []
+  pub wrong-asks-two : getD cmd 0 0 ≡ 0x0D → eqb (length (drop 1 cmd)) 16 && same (flip (drop 1 cmd)) (a .peercheck) ≡ false
+      → questions (at m P.WaitingDHKeyEa) (command cmd) a ≡ askLtk m ∷ askPeerCheck m a ∷ []
   unfolding questions
   wrong-asks-two k h = rw (nonempty cmd (omega arith), eq-eqb (getD cmd 0 0) 0x0D k, h)
 
@@ -97,19 +97,19 @@ said body f (right g e k) h = let d : g ≡ f = cc in rw (← d) (encode-decode 
 
 -- the peer's is what its request said, octet for octet: AuthReq with all its bits, OOB, IO
 pub triple-as-received : (m : State) (a : Supplied) (body : List ℕ) (f : PairingFeatures) → acceptOf body ≡ Accepted f
-    → (askEa (requested m f) a) .iocap ≡ getD body 2 0 ∷ getD body 1 0 ∷ getD body 0 0 ∷ []
+    → (askPeerCheck (requested m f) a) .iocap ≡ getD body 2 0 ∷ getD body 1 0 ∷ getD body 0 0 ∷ []
 triple-as-received m a body f h = rw (← said body f (heard body) h)
 
 -- ours is what our response said
 pub triple-as-sent : (m : State) (a : Supplied) (f : PairingFeatures)
-    → let sent = pairingResponse (localFeatures (m .setup) f) in (askEb (requested m f) a) .iocap ≡ getD sent 7 0 ∷ getD sent 6 0 ∷ getD sent 5 0 ∷ []
+    → let sent = pairingResponse (localFeatures (m .setup) f) in (askOwnCheck (requested m f) a) .iocap ≡ getD sent 7 0 ∷ getD sent 6 0 ∷ getD sent 5 0 ∷ []
 unfolding frame
 triple-as-sent m a f = refl
 
 -- The next question, and the answers given so far
 
 abbrev told : Given → Bool → Bool → Given
-told g f5 ea = record { dh = g .dh; f4 = g .f4; g2 = g .g2; f5 = f5; ea = ea; eb = g .eb }
+told g f5 check = record { dh = g .dh; ownconfirm = g .ownconfirm; peerconfirm = g .peerconfirm; g2 = g .g2; f5 = f5; peercheck = check; owncheck = g .owncheck }
 
 module _ (m : State) (g : Given) (a : Supplied) where
   next-cond : (b : Bool) (qs qs′ : List Question) → nextOf g qs ≡ nextOf g qs′ → nextOf g (cond b qs []) ≡ nextOf g (cond b qs′ [])
@@ -132,11 +132,11 @@ module _ (m : State) (g : Given) (a : Supplied) where
       go true = refl
       go false = refl
 
-  next-check : (whole : Bool) (ea : List ℕ) → nextOf g (checkAsks m whole ea a) ≡ nextOf g (checkAsks m whole ea (sofar g a))
+  next-check : (whole : Bool) (value : List ℕ) → nextOf g (checkAsks m whole value a) ≡ nextOf g (checkAsks m whole value (sofar g a))
   unfolding nextOf
-  next-check whole ea = go (g .f5) (g .ea)
+  next-check whole value = go (g .f5) (g .peercheck)
     where
-      go : (b c : Bool) → nextOf (told g b c) (checkAsks m whole ea a) ≡ nextOf (told g b c) (checkAsks m whole ea (sofar (told g b c) a))
+      go : (b c : Bool) → nextOf (told g b c) (checkAsks m whole value a) ≡ nextOf (told g b c) (checkAsks m whole value (sofar (told g b c) a))
       go true true = refl
       go true false = refl
       go false c = refl

@@ -14,11 +14,11 @@ use Rattle.method.specs.declared.PassKeyEntryAction.the-variants as W
 use Rattle.method.specs.Method.{methodOf}
 use Rattle.rounds.specs.declared.Following.the-variants.{Round, DHKeyCheck}
 use Rattle.rounds.specs.Rounds.{afterOf}
-use Rattle.machine.specs.declared.Answer.{Answer}
-use Rattle.machine.specs.declared.Answer.the-variants as A
+use Rattle.protocol.specs.declared.Answer.{Answer}
+use Rattle.protocol.specs.declared.Answer.the-variants as A
+use Rattle.protocol.specs.declared.Setup.{Setup}
 use Rattle.machine.specs.declared.Phase.{Phase}
 use Rattle.machine.specs.declared.Phase.the-variants as P
-use Rattle.machine.specs.declared.Setup.{Setup}
 use Rattle.machine.specs.declared.State.{State}
 use Rattle.machine.specs.Outcome.{Outcome, at, bonded, refused, failing, goes, succeeds, finishedPhase}
 use Rattle.machine.specs.Request.{localFeatures, requested}

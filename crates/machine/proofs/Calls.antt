@@ -16,9 +16,9 @@ use Rattle.features.specs.declared.PairingFeatures.{PairingFeatures}
 use Rattle.features.specs.Bits.{secureConnectionsBit}
 use Rattle.features.specs.Features.{decodeOf, featuresOf}
 use Rattle.features.proofs.Features.{accepted, decodes}
-use Rattle.machine.specs.declared.Acceptance.{Acceptance}
-use Rattle.machine.specs.declared.Acceptance.the-variants as X
-use Rattle.machine.specs.declared.Failure.{Failure}
+use Rattle.protocol.specs.declared.Acceptance.{Acceptance}
+use Rattle.protocol.specs.declared.Acceptance.the-variants as X
+use Rattle.protocol.specs.declared.Failure.{Failure}
 use Rattle.machine.specs.Request.{acceptOf}
 
 -- two constructors are never one

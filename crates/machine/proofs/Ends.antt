@@ -20,26 +20,27 @@ use Rattle.features.specs.declared.Decoded.{Decoded}
 use Rattle.features.specs.declared.Decoded.the-variants.{Features, Refused}
 use Rattle.features.specs.Features.{decodeOf}
 use Rattle.features.specs.Bits.{identityBit, secureConnectionsBit}
-use Rattle.machine.specs.declared.Failure.{Failure}
-use Rattle.machine.specs.declared.Failure.the-variants as F
-use Rattle.machine.specs.declared.Refusal.{Refusal}
-use Rattle.machine.specs.declared.Refusal.the-variants as R
-use Rattle.machine.specs.declared.Answer.the-variants as A
-use Rattle.machine.specs.declared.Acceptance.{Acceptance}
-use Rattle.machine.specs.declared.Acceptance.the-variants.{Accepted, Rejected}
+use Rattle.protocol.specs.declared.Failure.{Failure}
+use Rattle.protocol.specs.declared.Failure.the-variants as F
+use Rattle.protocol.specs.declared.Refusal.{Refusal}
+use Rattle.protocol.specs.declared.Refusal.the-variants as R
+use Rattle.protocol.specs.declared.Answer.the-variants as A
+use Rattle.protocol.specs.declared.Acceptance.{Acceptance}
+use Rattle.protocol.specs.declared.Acceptance.the-variants.{Accepted, Rejected}
+use Rattle.protocol.specs.declared.Event.{Event}
+use Rattle.protocol.specs.declared.Event.the-variants as I
+use Rattle.protocol.specs.declared.ConnectionEvent.{ConnectionEvent}
+use Rattle.protocol.specs.declared.ConnectionEvent.the-variants as E
+use Rattle.protocol.specs.declared.Configured.{Configured}
+use Rattle.protocol.specs.declared.Configured.the-variants as C
+use Rattle.protocol.specs.declared.OobData.{OobData}
+use Rattle.protocol.specs.declared.Secrets.{Secrets}
+use Rattle.protocol.specs.declared.Supplied.{Supplied}
+use Rattle.protocol.specs.declared.Question.{Question}
+use Rattle.protocol.specs.declared.QuestionKind.the-variants as Q
 use Rattle.machine.specs.declared.Phase.{Phase}
 use Rattle.machine.specs.declared.Phase.the-variants as P
-use Rattle.machine.specs.declared.Event.{Event}
-use Rattle.machine.specs.declared.Event.the-variants as I
-use Rattle.machine.specs.declared.ConnectionEvent.{ConnectionEvent}
-use Rattle.machine.specs.declared.ConnectionEvent.the-variants as E
-use Rattle.machine.specs.declared.Configured.{Configured}
-use Rattle.machine.specs.declared.Configured.the-variants as C
-use Rattle.machine.specs.declared.OobData.{OobData}
-use Rattle.machine.specs.declared.Secrets.{Secrets}
 use Rattle.machine.specs.declared.State.{State}
-use Rattle.machine.specs.declared.Supplied.{Supplied}
-use Rattle.machine.specs.declared.Question.{Question}
 use Rattle.machine.specs.Outcome.{Outcome, at, bonded, refused, failing, goes, succeeds, need, expect, finishedPhase}
 use Rattle.machine.specs.Hold.{holding}
 use Rattle.machine.specs.Request.{accepting, acceptOf, lost}
@@ -149,8 +150,8 @@ module _ {m : State} {c : Call} where
   held h k code body p e = unasked _ F.InvalidState _ refl λ _. unasked _ F.InvalidState _ refl λ _. unasked _ F.InvalidValue _ refl λ _. onward _ [] _ [] e
 
   -- f5 and the peer's check are asked; ours only where the peer's is right
-  checked : (ea : List ℕ) (a : Supplied) → End m c (checking m ea a) (checkAsks m true ea a)
-  checked ea a = tested (same ea (a .ea)) F.DHKeyCheckFailed _ _ (λ _. takes (inl refl) refl (inl refl)) (λ e. rw e Asked.check)
+  checked : (value : List ℕ) (a : Supplied) → End m c (checking m value a) (checkAsks m true value a)
+  checked value a = tested (same value (a .peercheck)) F.DHKeyCheckFailed _ _ (λ _. takes (inl refl) refl (inl refl)) (λ e. rw e Asked.check)
 
   sized : (code : ℕ) (body : List ℕ) (a : Supplied) → End m c (onCommand P.WaitingDHKeyEa m code body a) (commandAsks P.WaitingDHKeyEa m code body a)
   unfolding expect need
@@ -161,17 +162,17 @@ module _ {m : State} {c : Call} where
       go true false = fails E.Nothing F.DHKeyCheckFailed (inl refl) Asked.check
       go false e = quiet F.InvalidState refl
 
-  compared : (p : PairingMethod) (na : List ℕ) (g : ℕ) → End m c (compares p m na g) (compareAsks p m na)
-  compared JustWorks na g = onward _ _ _ _ refl
-  compared NumericComparison na g = onward _ _ _ _ refl
-  compared (PassKeyEntry central peripheral) na g = onward _ _ _ _ refl
-  compared OutOfBand na g = onward _ _ _ _ refl
+  compared : (p : PairingMethod) (nonce : List ℕ) (g : ℕ) → End m c (compares p m nonce g) (compareAsks p m nonce)
+  compared JustWorks nonce g = onward _ _ _ _ refl
+  compared NumericComparison nonce g = onward _ _ _ _ refl
+  compared (PassKeyEntry central peripheral) nonce g = onward _ _ _ _ refl
+  compared OutOfBand nonce g = onward _ _ _ _ refl
 
   received : (o : OobData) (a : Supplied) → End m c (oobDataOf m o a) (oobAsks m o)
-  received o a = tested (agrees o a) F.ConfirmValueFailed _ _ (λ _. onward _ _ _ _ refl) (λ e. go (allZero (o .random) && allZero (o .confirm)) e)
+  received o a = tested (agrees o a) F.ConfirmValueFailed _ _ (λ _. onward _ _ _ _ refl) (λ e. go (allZero (o .peerrandom) && allZero (o .peerconfirm)) e)
     where
-      go : (b : Bool) → b || same (o .confirm) (a .f4) ≡ false
-          → Asked F.ConfirmValueFailed (kinds (cond b [] (askF4 (m .secrets .pkax) (m .secrets .pkax) (o .random) 0 ∷ [])))
+      go : (b : Bool) → b || same (o .peerconfirm) (a .peerconfirm) ≡ false
+          → Asked F.ConfirmValueFailed (kinds (cond b [] (askF4 Q.PeerConfirm (m .secrets .peerx) (m .secrets .peerx) (o .peerrandom) 0 ∷ [])))
       go true e = let z : _≡_ {A = ℕ} 0 1 = cc in absurd (omega arith)
       go false e = Asked.confirm
 
@@ -273,7 +274,7 @@ module _ (m : State) (cmd : List ℕ) (a : Supplied) (n : ℕ) (unfinished : fin
   commanded (P.WaitingPassKeyInput h) e = held h _ _ _ _ refl
   commanded (P.WaitingPassKeyEntryConfirm r) e = expected _ _ _ _ _ _ _ refl λ _ _. onward _ _ _ _ refl
   commanded (P.WaitingPassKeyEntryRandom r) e =
-      expected _ _ _ _ _ _ _ refl λ _ _. tested (same (m .secrets .ca) (a .f4)) _ _ _ (λ _. onward _ _ _ _ (rounded r)) (λ _. Asked.confirm)
+      expected _ _ _ _ _ _ _ refl λ _ _. tested (same (m .secrets .confirm) (a .peerconfirm)) _ _ _ (λ _. onward _ _ _ _ (rounded r)) (λ _. Asked.confirm)
   commanded P.WaitingOobData e = quiet _ refl
   commanded P.WaitingOobRandom e = awaited _ _ _ _ _ _ refl (onward _ _ _ _ refl)
   commanded P.WaitingDHKeyEa e = sized _ _ a

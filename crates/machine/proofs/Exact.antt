@@ -16,15 +16,15 @@ use Rattle.method.specs.declared.PassKeyEntryAction.{PassKeyEntryAction}
 use Rattle.method.specs.declared.PassKeyEntryAction.the-variants as W
 use Rattle.rounds.specs.declared.Following.the-variants.{Round, DHKeyCheck}
 use Rattle.rounds.specs.Rounds.{zOf}
-use Rattle.machine.specs.declared.Answer.{Answer}
-use Rattle.machine.specs.declared.Answer.the-variants as A
+use Rattle.protocol.specs.declared.Answer.{Answer}
+use Rattle.protocol.specs.declared.Answer.the-variants as A
+use Rattle.protocol.specs.declared.Secrets.{Secrets}
+use Rattle.protocol.specs.declared.Setup.{Setup}
 use Rattle.machine.specs.declared.Phase.{Phase}
 use Rattle.machine.specs.declared.Phase.the-variants as P
-use Rattle.machine.specs.declared.Secrets.{Secrets}
-use Rattle.machine.specs.declared.Setup.{Setup}
 use Rattle.machine.specs.declared.State.{State}
 use Rattle.machine.specs.Outcome.{Outcome, at, to, refused, failing, goes, succeeds}
-use Rattle.machine.specs.Secrets.{setNa, setHeld, setPasskey, setConfirm}
+use Rattle.machine.specs.Secrets.{setPeerNonce, setHeld, setPasskey, setConfirm}
 use Rattle.machine.specs.Request.{requested}
 use Rattle.machine.specs.Passkey.{waits}
 use Rattle.machine.specs.Step.{Call, step}
@@ -54,7 +54,7 @@ Leads m (P.WaitingPassKeyInput true) h =
     (f : PairingFeatures) (x : PassKeyEntryAction) (u v : List ℕ) (q k c : Call) → Request (m .setup) f (PassKeyEntry x W.Input) q → Key u k
     → Command 0x03 16 v c → flip v ≡ m .secrets .held → Passed (m .setup) (q ∷ k ∷ c ∷ h)
 Leads m (P.WaitingPassKeyEntryConfirm r) h = Rounds (suc (19 - r)) h
-Leads m (P.WaitingPassKeyEntryRandom r) h = (v : List ℕ) (c : Call) → Command 0x03 16 v c → flip v ≡ m .secrets .ca → Rounds (suc (19 - r)) (c ∷ h)
+Leads m (P.WaitingPassKeyEntryRandom r) h = (v : List ℕ) (c : Call) → Command 0x03 16 v c → flip v ≡ m .secrets .confirm → Rounds (suc (19 - r)) (c ∷ h)
 Leads m P.WaitingOobData h = isPasskey (m .method) ≡ true
 Leads m P.WaitingOobRandom h = isPasskey (m .method) ≡ true
 Leads m P.WaitingDHKeyEa h = (isPasskey (m .method) ≡ true) × Rounds 0 h
@@ -124,7 +124,7 @@ module _ (cs : List Call) (ih : (m : State) → Reached (run m cs) → Leads m (
   by-edge {m} {c} (Edge.confirm {r = j} {v} e k) r =
       rw e (ih (to m (P.WaitingPassKeyEntryRandom j) (setConfirm (m .secrets) (flip v) (c .supplied .nonce))) r v c k refl)
   by-edge {m} {c} (Edge.random {r = j} {w} e k) r =
-      rw e λ v d g i. by-random m j (setNa (m .secrets) (flip w)) v w d c _ refl g (record { brings = k .brings; equal = i ∙ k .equal }) r
+      rw e λ v d g i. by-random m j (setPeerNonce (m .secrets) (flip w)) v w d c _ refl g (record { brings = k .brings; equal = i ∙ k .equal }) r
   by-edge {m} (Edge.oobData o e i a) r = rw e (ih _ r)
   by-edge {m} (Edge.oobRandom e k) r = rw e (ih _ r .0)
   by-edge {m} (Edge.check e k s) r = absurd (never cs _ (omega arith) r)

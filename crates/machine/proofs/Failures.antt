@@ -9,16 +9,16 @@ use native.Mathlib.Omega.{arith}
 use lib.ListN.{getD, drop}
 use lib.Dec.{ltb}
 use borrow.Author.Tests.{eq-eqb, ltb-true, ltb-false}
-use Rattle.machine.specs.declared.Failure.{Failure}
-use Rattle.machine.specs.declared.Answer.the-variants as A
+use Rattle.protocol.specs.declared.Failure.{Failure}
+use Rattle.protocol.specs.declared.Answer.the-variants as A
+use Rattle.protocol.specs.declared.Refusal.the-variants as R
+use Rattle.protocol.specs.declared.Supplied.{Supplied}
+use Rattle.protocol.specs.declared.Question.{Question}
+use Rattle.protocol.specs.declared.Acceptance.{Acceptance}
+use Rattle.protocol.specs.declared.Acceptance.the-variants.{Accepted, Rejected}
+use Rattle.protocol.specs.declared.ConnectionEvent.the-variants as E
 use Rattle.machine.specs.declared.Phase.the-variants as P
-use Rattle.machine.specs.declared.Refusal.the-variants as R
 use Rattle.machine.specs.declared.State.{State}
-use Rattle.machine.specs.declared.Supplied.{Supplied}
-use Rattle.machine.specs.declared.Question.{Question}
-use Rattle.machine.specs.declared.Acceptance.{Acceptance}
-use Rattle.machine.specs.declared.Acceptance.the-variants.{Accepted, Rejected}
-use Rattle.machine.specs.declared.ConnectionEvent.the-variants as E
 use Rattle.machine.specs.Outcome.{Outcome, at, refused, failing, need, finishedPhase}
 use Rattle.machine.specs.Request.{accepting, acceptOf}
 use Rattle.machine.specs.Step.{Input, Call, onCommand, taking, ranged, step}

@@ -13,12 +13,13 @@ use Rattle.method.specs.declared.PassKeyEntryAction.{PassKeyEntryAction}
 use Rattle.method.specs.declared.PassKeyEntryAction.the-variants as W
 use Rattle.rounds.specs.declared.Following.the-variants.{Round, DHKeyCheck}
 use Rattle.rounds.specs.Rounds.{afterOf, zOf}
+use Rattle.protocol.specs.declared.Secrets.{Secrets}
+use Rattle.protocol.specs.declared.Setup.{Setup}
+use Rattle.protocol.specs.declared.QuestionKind.the-variants as Q
 use Rattle.machine.specs.declared.Phase.the-variants as P
-use Rattle.machine.specs.declared.Secrets.{Secrets}
-use Rattle.machine.specs.declared.Setup.{Setup}
 use Rattle.machine.specs.declared.State.{State}
 use Rattle.machine.specs.Outcome.{to, goes}
-use Rattle.machine.specs.Secrets.{setNa, setHeld, setPasskey, setConfirm}
+use Rattle.machine.specs.Secrets.{setPeerNonce, setHeld, setPasskey, setConfirm}
 use Rattle.machine.specs.Request.{requested}
 use Rattle.machine.specs.Passkey.{waits}
 use Rattle.machine.specs.Step.{Call}
@@ -29,9 +30,9 @@ use Rattle.machine.specs.Edge.{Edge, exchanged}
 use Rattle.machine.specs.Tested.{upFrom}
 use Rattle.machine.proofs.Runs.{Roomy, Follows, follow, and-then}
 
--- the question of a random in round r: f4(PKax, PKbx, Na, z), z of bit r
+-- the question of a random in round r: f4(peer x, our x, peer nonce, z), z of bit r
 pub round-asks : (m : State) (r : ℕ) (c : Call) (w : List ℕ) → m .phase ≡ P.WaitingPassKeyEntryRandom r → Command 0x04 16 w c
-    → questions m (c .input) (c .supplied) ≡ askF4 (m .secrets .pkax) (m .setup .pkbx) (flip w) (zOf (m .secrets .passkey) r) ∷ []
+    → questions m (c .input) (c .supplied) ≡ askF4 Q.PeerConfirm (m .secrets .peerx) (m .setup .keyx) (flip w) (zOf (m .secrets .passkey) r) ∷ []
 unfolding questions
 round-asks m r c w e k = simp (k .input, e, ne-eqb (suc (length w)) 0 (λ z. omega arith), eq-eqb (length w) 16 (k .size))
 
@@ -50,12 +51,12 @@ behind : (m : State) (s s₀ : Secrets) (xs ys : List ℕ) {a b : State} {h i : 
 behind m s s₀ xs ys e f t = record { secrets = t .secrets; passkey = t .passkey ∙ e; follows = and-then xs ys f (t .follows) }
 
 -- one random in round r
-one-random : (m : State) (s : Secrets) (r : ℕ) (d : Call) (w : List ℕ) (h : List Call) → Matching (s .ca) w d → 90 ≤ d .room
-    → Follows (to m (P.WaitingPassKeyEntryRandom r) s) (d ∷ h) (zOf (s .passkey) r ∷ []) (to m (waits (afterOf r)) (setNa s (flip w))) h
+one-random : (m : State) (s : Secrets) (r : ℕ) (d : Call) (w : List ℕ) (h : List Call) → Matching (s .confirm) w d → 90 ≤ d .room
+    → Follows (to m (P.WaitingPassKeyEntryRandom r) s) (d ∷ h) (zOf (s .passkey) r ∷ []) (to m (waits (afterOf r)) (setPeerNonce s (flip w))) h
 unfolding goes
 one-random m s r d w h g o =
     let m₂ : State = to m (P.WaitingPassKeyEntryRandom r) s in
-    subst (λ qs. Follows m₂ (d ∷ h) (map (λ q. q .z) qs) (to m (waits (afterOf r)) (setNa s (flip w))) h) (round-asks m₂ r d w refl (g .brings))
+    subst (λ qs. Follows m₂ (d ∷ h) (map (λ q. q .z) qs) (to m (waits (afterOf r)) (setPeerNonce s (flip w))) h) (round-asks m₂ r d w refl (g .brings))
     (follow m₂ d (Edge.random refl g) refl o refl h)
 
 after-round : {n : ℕ} {h : List Call} → Rounds n h → (m : State) (s : Secrets) (r : ℕ) → n ≡ 19 - r
@@ -78,7 +79,7 @@ unfolding Roomy goes upFrom
 rounds-follow none m s r e o = absurd (omega arith)
 rounds-follow (round {v} {w} {c} {d} {h} k g ρ) m s r e o =
     let s₂ : Secrets = setConfirm s (flip v) (c .supplied .nonce) in
-    let s₃ : Secrets = setNa s₂ (flip w) in
+    let s₃ : Secrets = setPeerNonce s₂ (flip w) in
     behind m s₂ s [] _ refl (follow (to m (P.WaitingPassKeyEntryConfirm r) s) c (Edge.confirm refl k) refl (o .0) refl (d ∷ h))
     (behind m s₃ s₂ (zOf (s .passkey) r ∷ []) _ refl (one-random m s₂ r d w h g (o .1 .0))
     (after-round ρ m s₃ r (omega arith) (λ j i. rounds-follow ρ m s₃ j i (o .1 .1))))
@@ -119,7 +120,7 @@ passed-stands s (late {f} {x} {u} {v} {w} {p} {q} {k} {c} {t} {d} {h} a b g i j 
     let m₂ : State = to m (P.WaitingPassKeyInput false) (exchanged u k) in
     let s₃ : Secrets = setHeld (exchanged u k) (flip v) in
     let s₄ : Secrets = setConfirm (setPasskey s₃ p) (flip v) (t .supplied .nonce) in
-    let s₅ : Secrets = setNa s₄ (flip w) in
+    let s₅ : Secrets = setPeerNonce s₄ (flip w) in
     stands s m s₄ x W.Input (a .chooses)
     (behind m s₄ s₄ [] _ refl (follow (freshState s) q (Edge.request refl a) refl (o .0) refl (k ∷ c ∷ t ∷ d ∷ h))
     (behind m s₄ s₄ [] _ refl (follow m k (Edge.keyTyped refl (a .chooses) b) refl (o .1 .0) refl (c ∷ t ∷ d ∷ h))

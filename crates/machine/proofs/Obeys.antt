@@ -11,14 +11,14 @@ use Rattle.octets.proofs.Octets.{same-refl}
 use Rattle.features.specs.declared.PairingFeatures.{PairingFeatures}
 use Rattle.method.specs.declared.PairingMethod.{PairingMethod}
 use Rattle.method.specs.declared.PairingMethod.the-variants.{JustWorks, NumericComparison, PassKeyEntry, OutOfBand}
-use Rattle.machine.specs.declared.Configured.{Configured}
-use Rattle.machine.specs.declared.Event.{Event}
-use Rattle.machine.specs.declared.OobData.{OobData}
+use Rattle.protocol.specs.declared.Configured.{Configured}
+use Rattle.protocol.specs.declared.Event.{Event}
+use Rattle.protocol.specs.declared.OobData.{OobData}
+use Rattle.protocol.specs.declared.Secrets.{Secrets}
+use Rattle.protocol.specs.declared.Supplied.{Supplied}
 use Rattle.machine.specs.declared.Phase.{Phase}
 use Rattle.machine.specs.declared.Phase.the-variants as P
-use Rattle.machine.specs.declared.Secrets.{Secrets}
 use Rattle.machine.specs.declared.State.{State}
-use Rattle.machine.specs.declared.Supplied.{Supplied}
 use Rattle.machine.specs.Outcome.{Outcome, need, expect, finishedPhase}
 use Rattle.machine.specs.Hold.{holding}
 use Rattle.machine.specs.Request.{requestOf, responding}
@@ -87,17 +87,17 @@ shown-of : {d : Configured} {drew p : ℕ} (m : State) (s : Secrets) → Shows d
 shown-of m s (configured p drew) = refl
 shown-of m s (drawn p l) = rw (le-leb p 999999 l)
 
-works : (x : PairingMethod) (m : State) (na : List ℕ) (g2 : ℕ) → isJustWorks x ≡ true → compares x m na g2 ≡ compares JustWorks m na g2
-works JustWorks m na g2 h = refl
-works NumericComparison m na g2 h = clash (cc)
-works OutOfBand m na g2 h = clash (cc)
-works (PassKeyEntry x y) m na g2 h = clash (cc)
+works : (x : PairingMethod) (m : State) (nonce : List ℕ) (g2 : ℕ) → isJustWorks x ≡ true → compares x m nonce g2 ≡ compares JustWorks m nonce g2
+works JustWorks m nonce g2 h = refl
+works NumericComparison m nonce g2 h = clash (cc)
+works OutOfBand m nonce g2 h = clash (cc)
+works (PassKeyEntry x y) m nonce g2 h = clash (cc)
 
-asked : (x : PairingMethod) (m : State) (na : List ℕ) (g2 : ℕ) → isJustWorks x ≡ false → compares x m na g2 ≡ compares NumericComparison m na g2
-asked JustWorks m na g2 h = clash (cc)
-asked NumericComparison m na g2 h = refl
-asked OutOfBand m na g2 h = refl
-asked (PassKeyEntry x y) m na g2 h = refl
+asked : (x : PairingMethod) (m : State) (nonce : List ℕ) (g2 : ℕ) → isJustWorks x ≡ false → compares x m nonce g2 ≡ compares NumericComparison m nonce g2
+asked JustWorks m nonce g2 h = clash (cc)
+asked NumericComparison m nonce g2 h = refl
+asked OutOfBand m nonce g2 h = refl
+asked (PassKeyEntry x y) m nonce g2 h = refl
 
 -- the tests of a key
 keyed : (m : State) (c : Call) (w : List ℕ) (o : Outcome) → Key w c → begins (m .method) m (exchanged w c) (c .supplied) ≡ o → keyOf m 0x0C w (c .supplied) ≡ o
@@ -134,7 +134,7 @@ obeys {m} {c} (comparedRandom {w} e x k) t room =
 obeys {m} {c} (heldCheck {w} e k) t room = told m c room (P.WaitingNumericComparisonResult false) 0x0D w _ (k .input) e refl (simp (eq-eqb (length w) 16 (k .size)))
 obeys {m} {c} (yes e i) t room = occurred m c room (P.WaitingNumericComparisonResult false) _ (i .beside) _ (i .input) e refl refl refl
 obeys {m} {c} (yesChecked e i s) t room =
-    occurred m c room (P.WaitingNumericComparisonResult true) _ (i .beside) _ (i .input) e refl refl (simp (same-of (m .secrets .held) (c .supplied .ea) s))
+    occurred m c room (P.WaitingNumericComparisonResult true) _ (i .beside) _ (i .input) e refl refl (simp (same-of (m .secrets .held) (c .supplied .peercheck) s))
 obeys {m} {c} (heldConfirm {v} e k) t room = told m c room (P.WaitingPassKeyInput false) 0x03 v _ (k .input) e refl (simp (eq-eqb (length v) 16 (k .size)))
 obeys {m} {c} (typed {p} e i) t room =
     occurred m c room (P.WaitingPassKeyInput false) _ (i .brings .beside) _ (i .brings .input) e refl (le-leb p 999999 (i .range)) refl
@@ -143,11 +143,11 @@ obeys {m} {c} (typedHeld {p} e i) t room =
 obeys {m} {c} (confirm {r} {v} e k) t room = told m c room (P.WaitingPassKeyEntryConfirm r) 0x03 v _ (k .input) e refl (simp (eq-eqb (length v) 16 (k .size)))
 obeys {m} {c} (random {r} {w} e k) t room =
     told m c room (P.WaitingPassKeyEntryRandom r) 0x04 w _ (k .brings .input) e refl
-    (simp (eq-eqb (length w) 16 (k .brings .size), same-of (m .secrets .ca) (c .supplied .f4) (k .equal)))
+    (simp (eq-eqb (length w) 16 (k .brings .size), same-of (m .secrets .confirm) (c .supplied .peerconfirm) (k .equal)))
 obeys {m} {c} (oobData o e i a) t room = occurred m c room P.WaitingOobData _ o _ i e refl refl (simp a)
 obeys {m} {c} (oobRandom {w} e k) t room = told m c room P.WaitingOobRandom 0x04 w _ (k .input) e refl (simp (eq-eqb (length w) 16 (k .size)))
 obeys {m} {c} (check {w} e k s) t room =
-    told m c room P.WaitingDHKeyEa 0x0D w _ (k .input) e refl (simp (eq-eqb (length w) 16 (k .size), same-of (flip w) (c .supplied .ea) s))
+    told m c room P.WaitingDHKeyEa 0x0D w _ (k .input) e refl (simp (eq-eqb (length w) 16 (k .size), same-of (flip w) (c .supplied .peercheck) s))
 obeys {m} {c} (linkKeys e i b) t room = occurred m c room P.WaitingLinkEncrypted _ (i .beside) _ (i .input) e refl refl (rw b)
 obeys {m} {c} (linkDone e i b) t room = occurred m c room P.WaitingLinkEncrypted _ (i .beside) _ (i .input) e refl refl (rw b)
 obeys {m} {c} (irk {w} e k) t room = told m c room P.WaitingIdentitityInformation 0x08 w _ (k .input) e refl (simp (eq-eqb (length w) 16 (k .size)))

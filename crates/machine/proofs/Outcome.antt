@@ -11,12 +11,12 @@ use Rattle.octets.specs.Octets.{turned}
 use Rattle.octets.proofs.Octets.{turned-whole}
 use Rattle.octets.specs.Write.{over, Wrote}
 use Rattle.octets.proofs.Write.{written}
-use Rattle.machine.specs.declared.Failure.{Failure}
-use Rattle.machine.specs.declared.Failure.the-variants as F
-use Rattle.machine.specs.declared.Refusal.{Refusal}
+use Rattle.protocol.specs.declared.Failure.{Failure}
+use Rattle.protocol.specs.declared.Failure.the-variants as F
+use Rattle.protocol.specs.declared.Refusal.{Refusal}
+use Rattle.protocol.specs.declared.ConnectionEvent.{ConnectionEvent}
+use Rattle.protocol.specs.declared.ConnectionEvent.the-variants as E
 use Rattle.machine.specs.declared.Phase.{Phase}
-use Rattle.machine.specs.declared.ConnectionEvent.{ConnectionEvent}
-use Rattle.machine.specs.declared.ConnectionEvent.the-variants as E
 use Rattle.machine.specs.declared.State.{State}
 use Rattle.machine.specs.declared.Step.{Step}
 use Rattle.machine.specs.Outcome.{Outcome, Met, Quiet, said, to, refused, failing, goes, succeeds, need, expect}

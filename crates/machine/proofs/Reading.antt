@@ -13,20 +13,21 @@ use Rattle.octets.specs.Octets.{flip, same, allZero}
 use Rattle.method.specs.declared.PassKeyEntryAction.the-variants as W
 use Rattle.method.specs.declared.PairingMethod.{PairingMethod}
 use Rattle.method.specs.declared.PairingMethod.the-variants.{JustWorks, NumericComparison, PassKeyEntry, OutOfBand}
-use Rattle.machine.specs.declared.Failure.{Failure}
-use Rattle.machine.specs.declared.Failure.the-variants as F
-use Rattle.machine.specs.declared.Refusal.the-variants as R
+use Rattle.protocol.specs.declared.Failure.{Failure}
+use Rattle.protocol.specs.declared.Failure.the-variants as F
+use Rattle.protocol.specs.declared.Refusal.the-variants as R
+use Rattle.protocol.specs.declared.Event.{Event}
+use Rattle.protocol.specs.declared.Event.the-variants as I
+use Rattle.protocol.specs.declared.ConnectionEvent.the-variants as E
+use Rattle.protocol.specs.declared.Configured.{Configured}
+use Rattle.protocol.specs.declared.Configured.the-variants as C
+use Rattle.protocol.specs.declared.OobData.{OobData}
+use Rattle.protocol.specs.declared.Supplied.{Supplied}
+use Rattle.protocol.specs.declared.Question.{Question}
+use Rattle.protocol.specs.declared.QuestionKind.the-variants as Q
 use Rattle.machine.specs.declared.Phase.{Phase}
 use Rattle.machine.specs.declared.Phase.the-variants as P
-use Rattle.machine.specs.declared.Event.{Event}
-use Rattle.machine.specs.declared.Event.the-variants as I
-use Rattle.machine.specs.declared.ConnectionEvent.the-variants as E
-use Rattle.machine.specs.declared.Configured.{Configured}
-use Rattle.machine.specs.declared.Configured.the-variants as C
-use Rattle.machine.specs.declared.OobData.{OobData}
 use Rattle.machine.specs.declared.State.{State}
-use Rattle.machine.specs.declared.Supplied.{Supplied}
-use Rattle.machine.specs.declared.Question.{Question}
 use Rattle.machine.specs.Outcome.{Outcome, refused, failing, need, expect, finishedPhase}
 use Rattle.machine.specs.Secrets.{fresh}
 use Rattle.machine.specs.Exchange.{begins, shown}
@@ -93,14 +94,14 @@ module _ (m : State) (a : Supplied) where
 
   -- The other steps
 
-  compared : (w : PairingMethod) (na : List ℕ) → compares w m na (a .g2) ≡ compares w m na ((only (compareAsks w m na) nothing a) .g2)
-  compared JustWorks na = refl
-  compared NumericComparison na = refl
-  compared (PassKeyEntry central peripheral) na = refl
-  compared OutOfBand na = refl
+  compared : (w : PairingMethod) (peernonce : List ℕ) → compares w m peernonce (a .g2) ≡ compares w m peernonce ((only (compareAsks w m peernonce) nothing a) .g2)
+  compared JustWorks peernonce = refl
+  compared NumericComparison peernonce = refl
+  compared (PassKeyEntry central peripheral) peernonce = refl
+  compared OutOfBand peernonce = refl
 
-  checked : (ea : List ℕ) → checking m ea a ≡ checking m ea (only (checkAsks m true ea a) nothing a)
-  checked ea = needed _ _ _ _ λ e. rw e
+  checked : (value : List ℕ) → checking m value a ≡ checking m value (only (checkAsks m true value a) nothing a)
+  checked value = needed _ _ _ _ λ e. rw e
 
   whole : (code : ℕ) (body : List ℕ) → let a′ = only (commandAsks P.WaitingDHKeyEa m code body a) nothing a in
       Alike (checkOf m code body a) (checkOf m code body a′) (commandAsks P.WaitingDHKeyEa m code body a) (commandAsks P.WaitingDHKeyEa m code body a′)
@@ -115,10 +116,10 @@ module _ (m : State) (a : Supplied) where
       go false e = (refl, refl)
 
   agreed : (o : OobData) → agrees o a ≡ agrees o (only (oobAsks m o) nothing a)
-  agreed o = go (allZero (o .random) && allZero (o .confirm))
+  agreed o = go (allZero (o .peerrandom) && allZero (o .peerconfirm))
     where
-      go : (b : Bool) → b || same (o .confirm) (a .f4)
-          ≡ b || same (o .confirm) ((only (cond b [] (askF4 (m .secrets .pkax) (m .secrets .pkax) (o .random) 0 ∷ [])) nothing a) .f4)
+      go : (b : Bool) → b || same (o .peerconfirm) (a .peerconfirm)
+          ≡ b || same (o .peerconfirm) ((only (cond b [] (askF4 Q.PeerConfirm (m .secrets .peerx) (m .secrets .peerx) (o .peerrandom) 0 ∷ [])) nothing a) .peerconfirm)
       go true = refl
       go false = refl
 

@@ -7,12 +7,12 @@ use mathlib.Core.Bool.{true, false, cond}
 use native.Mathlib.Omega.{arith}
 use lib.ListN.{length, getD, drop}
 use borrow.Author.Tests.{eq-eqb, lt-ltb, le-ltb, lt-leb}
-use Rattle.machine.specs.declared.Refusal.{Refusal}
-use Rattle.machine.specs.declared.Refusal.the-variants as R
-use Rattle.machine.specs.declared.Answer.the-variants as A
+use Rattle.protocol.specs.declared.Refusal.{Refusal}
+use Rattle.protocol.specs.declared.Refusal.the-variants as R
+use Rattle.protocol.specs.declared.Answer.the-variants as A
+use Rattle.protocol.specs.declared.Supplied.{Supplied}
+use Rattle.protocol.specs.declared.Question.{Question}
 use Rattle.machine.specs.declared.State.{State}
-use Rattle.machine.specs.declared.Supplied.{Supplied}
-use Rattle.machine.specs.declared.Question.{Question}
 use Rattle.machine.specs.Outcome.{Outcome, refused, failing, finishedPhase, need, expect}
 use Rattle.machine.specs.Step.{Input, Call, onCommand, taking, ranged, front, step}
 use Rattle.machine.specs.Refusals.{reads, Outside, typed, drawn, Refuses, Unchanged}

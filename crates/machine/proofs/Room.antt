@@ -31,7 +31,7 @@ value code v e = length-frame code (flip v) 16 (length-value v 16 e)
 
 module _ (m : State) (c : Call) (z : Sized m (c .supplied)) where
   key : length (ourKey m) ≡ 69
-  key = length-frame 0x0C _ 64 (length-key (m .setup .pkbx) (m .setup .pkby) (z .pkbx) (z .pkby))
+  key = length-frame 0x0C _ 64 (length-key (m .setup .keyx) (m .setup .keyy) (z .keyx) (z .keyy))
 
   identity : length (ourIdentity m) ≤ 90
   identity = go (identityBit (localFeatures (m .setup) (m .features) .responder))
@@ -57,20 +57,20 @@ module _ (m : State) (c : Call) (z : Sized m (c .supplied)) where
   fits-by (Edge.keyShown e x k s) = omega (arith, key)
   fits-by (Edge.keyTyped e x k) = omega (arith, key)
   fits-by (Edge.keyCompared e x k) =
-      omega (arith, key, value 0x03 (c .supplied .f4) (z .f4), length-append (ourKey m) (valueFrame 0x03 (c .supplied .f4)))
-  fits-by (Edge.worksRandom e x k) = omega (arith, value 0x04 (m .secrets .nb) (z .nb))
-  fits-by (Edge.comparedRandom e x k) = omega (arith, value 0x04 (m .secrets .nb) (z .nb))
+      omega (arith, key, value 0x03 (c .supplied .ownconfirm) (z .ownconfirm), length-append (ourKey m) (valueFrame 0x03 (c .supplied .ownconfirm)))
+  fits-by (Edge.worksRandom e x k) = omega (arith, value 0x04 (m .secrets .ownnonce) (z .ownnonce))
+  fits-by (Edge.comparedRandom e x k) = omega (arith, value 0x04 (m .secrets .ownnonce) (z .ownnonce))
   fits-by (Edge.heldCheck e k) = omega arith
   fits-by (Edge.yes e i) = omega arith
-  fits-by (Edge.yesChecked e i s) = omega (arith, value 0x0D (c .supplied .eb) (z .eb))
+  fits-by (Edge.yesChecked e i s) = omega (arith, value 0x0D (c .supplied .owncheck) (z .owncheck))
   fits-by (Edge.heldConfirm e k) = omega arith
   fits-by (Edge.typed e t) = omega arith
-  fits-by (Edge.typedHeld e t) = omega (arith, value 0x03 (c .supplied .f4) (z .f4))
-  fits-by (Edge.confirm e k) = omega (arith, value 0x03 (c .supplied .f4) (z .f4))
-  fits-by (Edge.random e k) = omega (arith, value 0x04 (m .secrets .nb) (z .nb))
+  fits-by (Edge.typedHeld e t) = omega (arith, value 0x03 (c .supplied .ownconfirm) (z .ownconfirm))
+  fits-by (Edge.confirm e k) = omega (arith, value 0x03 (c .supplied .ownconfirm) (z .ownconfirm))
+  fits-by (Edge.random e k) = omega (arith, value 0x04 (m .secrets .ownnonce) (z .ownnonce))
   fits-by (Edge.oobData o e i a) = omega arith
   fits-by (Edge.oobRandom e k) = omega (arith, value 0x04 (c .supplied .nonce) (z .nonce))
-  fits-by (Edge.check e k s) = omega (arith, value 0x0D (c .supplied .eb) (z .eb))
+  fits-by (Edge.check e k s) = omega (arith, value 0x0D (c .supplied .owncheck) (z .owncheck))
   fits-by (Edge.linkKeys e i b) = identity
   fits-by (Edge.linkDone e i b) = identity
   fits-by (Edge.irk e k) = omega arith

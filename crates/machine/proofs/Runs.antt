@@ -5,9 +5,9 @@ use mathlib.Core.List.{List, [], _∷_, _++_, append-assoc}
 use mathlib.Core.Bool.{Bool, true, false, cond}
 use lib.Dec.{ltb}
 use borrow.Author.Tests.{ltb-false}
-use Rattle.machine.specs.declared.Answer.{Answer}
-use Rattle.machine.specs.declared.Answer.the-variants as A
-use Rattle.machine.specs.declared.Refusal.the-variants as R
+use Rattle.protocol.specs.declared.Answer.{Answer}
+use Rattle.protocol.specs.declared.Answer.the-variants as A
+use Rattle.protocol.specs.declared.Refusal.the-variants as R
 use Rattle.machine.specs.declared.State.{State}
 use Rattle.machine.specs.Outcome.{Outcome, refused, finishedPhase}
 use Rattle.machine.specs.Step.{Call, step, front}

@@ -16,16 +16,16 @@ use Rattle.method.specs.declared.PairingMethod.the-variants.{JustWorks, Numeric
 use Rattle.rounds.specs.declared.Following.the-variants.{Round, DHKeyCheck}
 use Rattle.rounds.specs.Rounds.{afterOf}
 use Rattle.frames.specs.Frames.{frame, pairingRandom, identityInformation, identityAddress}
-use Rattle.machine.specs.declared.Answer.{Answer}
-use Rattle.machine.specs.declared.Answer.the-variants as A
-use Rattle.machine.specs.declared.ConnectionEvent.the-variants as E
-use Rattle.machine.specs.declared.Failure.the-variants as F
+use Rattle.protocol.specs.declared.Answer.{Answer}
+use Rattle.protocol.specs.declared.Answer.the-variants as A
+use Rattle.protocol.specs.declared.ConnectionEvent.the-variants as E
+use Rattle.protocol.specs.declared.Failure.the-variants as F
+use Rattle.protocol.specs.declared.Setup.{Setup}
 use Rattle.machine.specs.declared.Phase.{Phase}
 use Rattle.machine.specs.declared.Phase.the-variants as P
-use Rattle.machine.specs.declared.Setup.{Setup}
 use Rattle.machine.specs.declared.State.{State}
 use Rattle.machine.specs.Outcome.{Outcome, to, refused, failing, goes, succeeds, need, expect}
-use Rattle.machine.specs.Secrets.{setNa}
+use Rattle.machine.specs.Secrets.{setPeerNonce}
 use Rattle.machine.specs.Request.{localFeatures}
 use Rattle.machine.specs.Passkey.{waits}
 use Rattle.machine.specs.Keys.{ourIdentity}
@@ -46,15 +46,16 @@ use Rattle.machine.proofs.Obeys.{told, obeys}
 
 module _ (m : State) (r : ℕ) (c : Call) (w : List ℕ) (e : m .phase ≡ P.WaitingPassKeyEntryRandom r) (k : Command 0x04 16 w c) (room : 90 ≤ c .room) where
   -- a match sends the round's nonce, alone, and goes on
-  pub match : m .secrets .ca ≡ c .supplied .f4 → step m c ≡ goes (to m (waits (afterOf r)) (setNa (m .secrets) (flip w))) (pairingRandom (m .secrets .nb)) E.Nothing
+  pub match : m .secrets .confirm ≡ c .supplied .peerconfirm
+      → step m c ≡ goes (to m (waits (afterOf r)) (setPeerNonce (m .secrets) (flip w))) (pairingRandom (m .secrets .ownnonce)) E.Nothing
   match s = obeys (Edge.random e (record { brings = k; equal = s })) refl room
 
   -- a mismatch fails, and sends nothing
-  pub mismatch : ¬ (m .secrets .ca ≡ c .supplied .f4) → step m c ≡ failing m E.Nothing F.ConfirmValueFailed
+  pub mismatch : ¬ (m .secrets .confirm ≡ c .supplied .peerconfirm) → step m c ≡ failing m E.Nothing F.ConfirmValueFailed
   unfolding need expect
   mismatch s =
       told m c room (P.WaitingPassKeyEntryRandom r) 0x04 w _ (k .input) e refl
-      (simp (eq-eqb (length w) 16 (k .size), ne-same (m .secrets .ca) (c .supplied .f4) s))
+      (simp (eq-eqb (length w) 16 (k .size), ne-same (m .secrets .confirm) (c .supplied .peerconfirm) s))
 
 -- Whatever the machine and the call
 
@@ -203,7 +204,7 @@ only-match s cs c p = go (run (freshState s) cs) (fits-run cs (freshState s) ref
 
 -- a call in round r's WaitingPassKeyEntryRandom sends nothing, or the nonce
 discloses : {m : State} {c : Call} {o : Outcome} (r : ℕ) → Edge m c o → m .phase ≡ P.WaitingPassKeyEntryRandom r
-    → (o .frames ≡ []) ⊎ (o .frames ≡ pairingRandom (m .secrets .nb))
+    → (o .frames ≡ []) ⊎ (o .frames ≡ pairingRandom (m .secrets .ownnonce))
 unfolding refused failing goes succeeds
 discloses r (Edge.refuses x) h = inl refl
 discloses r (Edge.fails first f u) h = inl refl
@@ -271,13 +272,13 @@ one-nonce r [] m = inl refl
 one-nonce r (c ∷ cs) m = go (inRound r (m .phase)) refl (step m c .answer) (step m c .frames) (low-step m c) (λ e. discloses r (edge m c) e) (one-nonce r cs (after m c))
   where
     taken : inRound r (m .phase) ≡ true → (f : List ℕ) → left (after m c) < left m
-        → (m .phase ≡ P.WaitingPassKeyEntryRandom r → (f ≡ []) ⊎ (f ≡ pairingRandom (m .secrets .nb))) → AtMostOne (f ++ sentIn r (after m c) cs)
+        → (m .phase ≡ P.WaitingPassKeyEntryRandom r → (f ≡ []) ⊎ (f ≡ pairingRandom (m .secrets .ownnonce))) → AtMostOne (f ++ sentIn r (after m c) cs)
     taken e f l d =
         let p : m .phase ≡ P.WaitingPassKeyEntryRandom r = inRound-phase r (m .phase) e in
-        alone f (sentIn r (after m c) cs) (m .secrets .nb) (silent r cs (after m c) (omega (arith, ap (rank (m .method)) p))) (d p)
+        alone f (sentIn r (after m c) cs) (m .secrets .ownnonce) (silent r cs (after m c) (omega (arith, ap (rank (m .method)) p))) (d p)
 
     go : (b : Bool) → inRound r (m .phase) ≡ b → (a : Answer) (f : List ℕ) → lowBy m a (after m c) f
-        → (m .phase ≡ P.WaitingPassKeyEntryRandom r → (f ≡ []) ⊎ (f ≡ pairingRandom (m .secrets .nb)))
+        → (m .phase ≡ P.WaitingPassKeyEntryRandom r → (f ≡ []) ⊎ (f ≡ pairingRandom (m .secrets .ownnonce)))
         → AtMostOne (sentIn r (after m c) cs) → AtMostOne (cond b f [] ++ sentIn r (after m c) cs)
     go false e a f l d k = k
     go true e (A.Refused x) f l d k = rw (l .1) k

@@ -10,15 +10,15 @@ use Rattle.address.specs.Identity.{decodeOf as addressOf}
 use Rattle.features.specs.Bits.{identityBit}
 use Rattle.rounds.specs.declared.Following.the-variants.{Round, DHKeyCheck}
 use Rattle.rounds.specs.Rounds.{afterOf}
-use Rattle.machine.specs.declared.ActionKind.the-variants as K
-use Rattle.machine.specs.declared.MaybeBond.{MaybeBond}
+use Rattle.protocol.specs.declared.ActionKind.the-variants as K
+use Rattle.protocol.specs.declared.MaybeBond.{MaybeBond}
+use Rattle.protocol.specs.declared.Secrets.{Secrets}
+use Rattle.protocol.specs.declared.Setup.{Setup}
 use Rattle.machine.specs.declared.Phase.{Phase}
 use Rattle.machine.specs.declared.Phase.the-variants as P
-use Rattle.machine.specs.declared.Secrets.{Secrets}
-use Rattle.machine.specs.declared.Setup.{Setup}
 use Rattle.machine.specs.declared.State.{State}
 use Rattle.machine.specs.Outcome.{Outcome, at, to, bonded, refused, failing, goes, succeeds, storing, wantsBonding, noAction, finishedPhase}
-use Rattle.machine.specs.Secrets.{setNa, setHeld}
+use Rattle.machine.specs.Secrets.{setPeerNonce, setHeld}
 use Rattle.machine.specs.Request.{requested}
 use Rattle.machine.specs.Check.{checked as right}
 use Rattle.machine.specs.Passkey.{waits}
@@ -232,7 +232,7 @@ module _ (cs : List Call) (ih : (m : State) → run m cs .phase ≡ P.Success �
   by-edge (Edge.typed e t) r = rw e (later (ih _ r))
   by-edge (Edge.typedHeld e t) r = rw e (later (ih _ r))
   by-edge (Edge.confirm e k) r = rw e (later (ih _ r))
-  by-edge {m} (Edge.random {r = j} {w} e k) r = rw e (later (toward-after m (setNa (m .secrets) (flip w)) j _ (ih _ r)))
+  by-edge {m} (Edge.random {r = j} {w} e k) r = rw e (later (toward-after m (setPeerNonce (m .secrets) (flip w)) j _ (ih _ r)))
   by-edge (Edge.oobData o e i a) r = rw e (later (ih _ r))
   by-edge (Edge.oobRandom e k) r = rw e (later (arrived (ih _ r)))
   by-edge (Edge.check e k s) r = rw e (checked k s (ih _ r))

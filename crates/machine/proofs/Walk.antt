@@ -18,19 +18,19 @@ use Rattle.method.specs.declared.PassKeyEntryAction.{PassKeyEntryAction}
 use Rattle.method.specs.declared.PassKeyEntryAction.the-variants as W
 use Rattle.method.specs.Method.{methodOf}
 use Rattle.rounds.specs.Rounds.{inRange}
-use Rattle.machine.specs.declared.Acceptance.{Acceptance}
-use Rattle.machine.specs.declared.Acceptance.the-variants as X
-use Rattle.machine.specs.declared.Configured.{Configured}
-use Rattle.machine.specs.declared.Configured.the-variants as C
-use Rattle.machine.specs.declared.ConnectionEvent.the-variants as E
-use Rattle.machine.specs.declared.Event.{Event}
-use Rattle.machine.specs.declared.Event.the-variants as I
-use Rattle.machine.specs.declared.Failure.{Failure}
-use Rattle.machine.specs.declared.Failure.the-variants as F
-use Rattle.machine.specs.declared.OobData.{OobData}
+use Rattle.protocol.specs.declared.Acceptance.{Acceptance}
+use Rattle.protocol.specs.declared.Acceptance.the-variants as X
+use Rattle.protocol.specs.declared.Configured.{Configured}
+use Rattle.protocol.specs.declared.Configured.the-variants as C
+use Rattle.protocol.specs.declared.ConnectionEvent.the-variants as E
+use Rattle.protocol.specs.declared.Event.{Event}
+use Rattle.protocol.specs.declared.Event.the-variants as I
+use Rattle.protocol.specs.declared.Failure.{Failure}
+use Rattle.protocol.specs.declared.Failure.the-variants as F
+use Rattle.protocol.specs.declared.OobData.{OobData}
+use Rattle.protocol.specs.declared.Refusal.the-variants as R
 use Rattle.machine.specs.declared.Phase.{Phase}
 use Rattle.machine.specs.declared.Phase.the-variants as P
-use Rattle.machine.specs.declared.Refusal.the-variants as R
 use Rattle.machine.specs.declared.State.{State}
 use Rattle.machine.specs.Outcome.{Outcome, to, goes, need, expect, finishedPhase}
 use Rattle.machine.specs.Secrets.{setHeld}
@@ -131,12 +131,12 @@ module _ (m : State) (c : Call) (u : finishedPhase (m .phase) ≡ false) where
   edge-command (P.WaitingPassKeyInput held) code w i e = edge-hold code 0x03 w i held _ λ h k. heldConfirm (e ∙ ap P.WaitingPassKeyInput h) k
   edge-command (P.WaitingPassKeyEntryConfirm r) code w i e = edge-expect code 0x03 w i 16 _ _ λ k. confirm e k
   edge-command (P.WaitingPassKeyEntryRandom r) code w i e =
-      edge-expect code 0x04 w i 16 _ _ λ k. edge-need (same (m .secrets .ca) (c .supplied .f4)) _ _ λ s.
+      edge-expect code 0x04 w i 16 _ _ λ k. edge-need (same (m .secrets .confirm) (c .supplied .peerconfirm)) _ _ λ s.
       random e (record { brings = k; equal = same-eq _ _ s })
   edge-command P.WaitingOobData code w i e = fails E.Nothing F.InvalidState u
   edge-command P.WaitingOobRandom code w i e = edge-expect code 0x04 w i 16 _ _ λ k. oobRandom e k
   edge-command P.WaitingDHKeyEa code w i e =
-      edge-expect code 0x0D w i 16 _ _ λ k. edge-need (same (flip w) (c .supplied .ea)) _ _ λ s. check e k (same-eq _ _ s)
+      edge-expect code 0x0D w i 16 _ _ λ k. edge-need (same (flip w) (c .supplied .peercheck)) _ _ λ s. check e k (same-eq _ _ s)
   edge-command P.WaitingLinkEncrypted code w i e = fails E.Nothing F.InvalidState u
   edge-command P.WaitingIdentitityInformation code w i e = edge-expect code 0x08 w i 16 _ _ λ k. irk e k
   edge-command P.WaitingIdentitityAddressInformation code w i e =
@@ -173,7 +173,7 @@ module _ (m : State) (c : Call) (u : finishedPhase (m .phase) ≡ false) where
       → Edge m c (comparisonEvent m held v (c .supplied))
   edge-comparison held (I.LinkEncryptedResult ok) o i e = fails E.Nothing F.InvalidState u
   edge-comparison true I.PassKeyConfirm o i e =
-      edge-need (same (m .secrets .held) (c .supplied .ea)) _ _ λ s. yesChecked e (record { beside = o; input = i }) (same-eq _ _ s)
+      edge-need (same (m .secrets .held) (c .supplied .peercheck)) _ _ λ s. yesChecked e (record { beside = o; input = i }) (same-eq _ _ s)
   edge-comparison false I.PassKeyConfirm o i e = yes e (record { beside = o; input = i })
   edge-comparison held I.PassKeyCancel o i e = fails E.Nothing F.NumericComparisonFailed u
   edge-comparison held (I.PassKeyInput p) o i e = fails E.Nothing F.InvalidState u

@@ -10,7 +10,7 @@ use Rattle.features.specs.declared.UseOutOfBand.the-variants.{NotPresent}
 use Rattle.features.specs.Features.{decodeOf}
 use Rattle.method.specs.Method.{methodOf}
 use Rattle.frames.specs.Frames.{frame, pairingRandom}
-use Rattle.machine.specs.declared.Failure.the-variants as F
+use Rattle.protocol.specs.declared.Failure.the-variants as F
 use Rattle.machine.specs.declared.Phase.the-variants as P
 use Rattle.machine.specs.declared.State.{State}
 use Rattle.machine.specs.Outcome.{refused, failing, goes, succeeds, need, expect}

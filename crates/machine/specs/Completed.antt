@@ -8,10 +8,10 @@ use Rattle.octets.specs.Octets.{flip}
 use Rattle.features.specs.declared.PairingFeatures.{PairingFeatures}
 use Rattle.features.specs.Bits.{identityBit}
 use Rattle.method.specs.declared.PairingMethod.{PairingMethod}
-use Rattle.machine.specs.declared.ActionKind.the-variants as K
-use Rattle.machine.specs.declared.Event.the-variants as I
+use Rattle.protocol.specs.declared.ActionKind.the-variants as K
+use Rattle.protocol.specs.declared.Event.the-variants as I
+use Rattle.protocol.specs.declared.Setup.{Setup}
 use Rattle.machine.specs.declared.Phase.the-variants as P
-use Rattle.machine.specs.declared.Setup.{Setup}
 use Rattle.machine.specs.declared.State.{State}
 use Rattle.machine.specs.Outcome.{Outcome}
 use Rattle.machine.specs.Step.{Call, command}
@@ -44,8 +44,8 @@ pub data Encrypted (m : State) (c : Call) : Type 0 where
 
 -- a DHKey check, arriving or held, that equals the f6 supplied with the call
 pub data Checks (m : State) (c : Call) : Type 0 where
-  arrived : {w : List ℕ} → m .phase ≡ P.WaitingDHKeyEa → Command 0x0D 16 w c → flip w ≡ c .supplied .ea → Checks m c
-  held : m .phase ≡ P.WaitingNumericComparisonResult true → Raised I.PassKeyConfirm c → m .secrets .held ≡ c .supplied .ea → Checks m c
+  arrived : {w : List ℕ} → m .phase ≡ P.WaitingDHKeyEa → Command 0x0D 16 w c → flip w ≡ c .supplied .peercheck → Checks m c
+  held : m .phase ≡ P.WaitingNumericComparisonResult true → Raised I.PassKeyConfirm c → m .secrets .held ≡ c .supplied .peercheck → Checks m c
 
 -- what reaches WaitingLinkEncrypted: such a check; the outcome enables encryption with the link key of f5 that is supplied with the same call
 pub record Enables (m : State) (c : Call) (o : Outcome) : Type 0 where
@@ -68,12 +68,12 @@ pub data Linked (f : PairingFeatures) : List Call → Type 0 where
 
 -- a DHKey check equal to the f6 supplied with it; then the link
 pub data Checked (f : PairingFeatures) : List Call → Type 0 where
-  checked : {w : List ℕ} {c : Call} {h : List Call} → Command 0x0D 16 w c → flip w ≡ c .supplied .ea → Linked f h → Checked f (c ∷ h)
+  checked : {w : List ℕ} {c : Call} {h : List Call} → Command 0x0D 16 w c → flip w ≡ c .supplied .peercheck → Linked f h → Checked f (c ∷ h)
 
 -- the end: such a check, or one that was held and equals the f6 supplied with the user's yes
 pub data Ends (f : PairingFeatures) : List Call → Type 0 where
   arrived : {h : List Call} → Checked f h → Ends f h
-  held : {w : List ℕ} {c d : Call} {h : List Call} → Command 0x0D 16 w c → Raised I.PassKeyConfirm d → flip w ≡ d .supplied .ea → Linked f h → Ends f (c ∷ d ∷ h)
+  held : {w : List ℕ} {c d : Call} {h : List Call} → Command 0x0D 16 w c → Raised I.PassKeyConfirm d → flip w ≡ d .supplied .peercheck → Linked f h → Ends f (c ∷ d ∷ h)
   later : {c : Call} {h : List Call} → Ends f h → Ends f (c ∷ h)
 
 -- a pairing: an acceptable request that says f, and that end; or a bonded link, and no request

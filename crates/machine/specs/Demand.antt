@@ -9,13 +9,13 @@ use lib.ListN.{length}
 use Rattle.octets.specs.Octets.{flip}
 use Rattle.rounds.specs.Rounds.{afterOf, zOf}
 use Rattle.frames.specs.Frames.{pairingRandom}
-use Rattle.machine.specs.declared.ConnectionEvent.the-variants as E
-use Rattle.machine.specs.declared.Failure.the-variants as F
+use Rattle.protocol.specs.declared.ConnectionEvent.the-variants as E
+use Rattle.protocol.specs.declared.Failure.the-variants as F
+use Rattle.protocol.specs.declared.Setup.{Setup}
 use Rattle.machine.specs.declared.Phase.the-variants as P
-use Rattle.machine.specs.declared.Setup.{Setup}
 use Rattle.machine.specs.declared.State.{State}
 use Rattle.machine.specs.Outcome.{to, goes, failing, finishedPhase}
-use Rattle.machine.specs.Secrets.{setNa}
+use Rattle.machine.specs.Secrets.{setPeerNonce}
 use Rattle.machine.specs.Passkey.{waits}
 use Rattle.machine.specs.Step.{Call, step}
 use Rattle.machine.specs.Fresh.{freshState}
@@ -49,18 +49,18 @@ TwentyBits =
 
 -- Match and mismatch
 
--- a random in round r whose stored confirm equals the supplied f4: the round's nonce, alone, and the next round or the check
+-- a random in round r whose stored confirm equals the supplied `peerconfirm`: the round's nonce, alone, and the next round or the check
 abbrev pub Match : Type 0
 Match =
     (m : State) (r : ℕ) (c : Call) (w : List ℕ) → m .phase ≡ P.WaitingPassKeyEntryRandom r → Command 0x04 16 w c → 90 ≤ c .room
-    → m .secrets .ca ≡ c .supplied .f4
-    → step m c ≡ goes (to m (waits (afterOf r)) (setNa (m .secrets) (flip w))) (pairingRandom (m .secrets .nb)) E.Nothing
+    → m .secrets .confirm ≡ c .supplied .peerconfirm
+    → step m c ≡ goes (to m (waits (afterOf r)) (setPeerNonce (m .secrets) (flip w))) (pairingRandom (m .secrets .ownnonce)) E.Nothing
 
 -- and one whose stored confirm does not: ConfirmValueFailed, which sends nothing
 abbrev pub Mismatch : Type 0
 Mismatch =
     (m : State) (r : ℕ) (c : Call) (w : List ℕ) → m .phase ≡ P.WaitingPassKeyEntryRandom r → Command 0x04 16 w c → 90 ≤ c .room
-    → ¬ (m .secrets .ca ≡ c .supplied .f4) → step m c ≡ failing m E.Nothing F.ConfirmValueFailed
+    → ¬ (m .secrets .confirm ≡ c .supplied .peerconfirm) → step m c ≡ failing m E.Nothing F.ConfirmValueFailed
 
 -- nothing, or one Pairing Random
 abbrev pub AtMostOne : List ℕ → Type 0

@@ -15,20 +15,20 @@ use Rattle.method.specs.declared.PassKeyEntryAction.the-variants as W
 use Rattle.method.specs.Method.{set}
 use Rattle.rounds.specs.Rounds.{afterOf}
 use Rattle.frames.specs.Frames.{pairingRandom}
-use Rattle.machine.specs.declared.ActionKind.the-variants as K
-use Rattle.machine.specs.declared.Answer.the-variants as A
-use Rattle.machine.specs.declared.ConnectionEvent.{ConnectionEvent}
-use Rattle.machine.specs.declared.ConnectionEvent.the-variants as E
-use Rattle.machine.specs.declared.Event.the-variants as I
-use Rattle.machine.specs.declared.Failure.{Failure}
-use Rattle.machine.specs.declared.OobData.{OobData}
+use Rattle.protocol.specs.declared.ActionKind.the-variants as K
+use Rattle.protocol.specs.declared.Answer.the-variants as A
+use Rattle.protocol.specs.declared.ConnectionEvent.{ConnectionEvent}
+use Rattle.protocol.specs.declared.ConnectionEvent.the-variants as E
+use Rattle.protocol.specs.declared.Event.the-variants as I
+use Rattle.protocol.specs.declared.Failure.{Failure}
+use Rattle.protocol.specs.declared.OobData.{OobData}
+use Rattle.protocol.specs.declared.Refusal.{Refusal}
+use Rattle.protocol.specs.declared.Secrets.{Secrets}
+use Rattle.protocol.specs.declared.Supplied.{Supplied}
 use Rattle.machine.specs.declared.Phase.the-variants as P
-use Rattle.machine.specs.declared.Refusal.{Refusal}
-use Rattle.machine.specs.declared.Secrets.{Secrets}
 use Rattle.machine.specs.declared.State.{State}
-use Rattle.machine.specs.declared.Supplied.{Supplied}
 use Rattle.machine.specs.Outcome.{Outcome, at, to, bonded, refused, failing, goes, succeeds, finishedPhase, noAction}
-use Rattle.machine.specs.Secrets.{fresh, setNa, setNonces, setOob, setHeld, setPasskey}
+use Rattle.machine.specs.Secrets.{fresh, setPeerNonce, setNonces, setOob, setHeld, setPasskey}
 use Rattle.machine.specs.Request.{responding}
 use Rattle.machine.specs.Exchange.{ourKey, comparing, showing}
 use Rattle.machine.specs.Check.{checked}
@@ -76,14 +76,15 @@ pub data Edge (m : State) (c : Call) : Outcome → Type 0 where
   keyCompared : {w : List ℕ} → m .phase ≡ P.WaitingPublicKey → isComparison (m .method) ≡ true → Key w c → Edge m c (comparing m (exchanged w c) (c .supplied))
   -- WaitingNumericComparisonRandom
   worksRandom : {w : List ℕ} → m .phase ≡ P.WaitingNumericComparisonRandom → isJustWorks (m .method) ≡ true → Command 0x04 16 w c
-      → Edge m c (goes (to m P.WaitingDHKeyEa (setNa (m .secrets) (flip w))) (pairingRandom (m .secrets .nb)) E.Nothing)
+      → Edge m c (goes (to m P.WaitingDHKeyEa (setPeerNonce (m .secrets) (flip w))) (pairingRandom (m .secrets .ownnonce)) E.Nothing)
   comparedRandom : {w : List ℕ} → m .phase ≡ P.WaitingNumericComparisonRandom → isJustWorks (m .method) ≡ false → Command 0x04 16 w c
-      → Edge m c (goes (to m (P.WaitingNumericComparisonResult false) (setNa (m .secrets) (flip w))) (pairingRandom (m .secrets .nb)) (E.PassKeyConfirm (c .supplied .g2 % 1000000)))
+      → Edge m c (goes (to m (P.WaitingNumericComparisonResult false) (setPeerNonce (m .secrets) (flip w))) (pairingRandom (m .secrets .ownnonce))
+      (E.PassKeyConfirm (c .supplied .g2 % 1000000)))
   -- WaitingNumericComparisonResult
   heldCheck : {w : List ℕ} → m .phase ≡ P.WaitingNumericComparisonResult false → Command 0x0D 16 w c
       → Edge m c (goes (to m (P.WaitingNumericComparisonResult true) (setHeld (m .secrets) (flip w))) [] E.Nothing)
   yes : m .phase ≡ P.WaitingNumericComparisonResult false → Raised I.PassKeyConfirm c → Edge m c (goes (at m P.WaitingDHKeyEa) [] E.Nothing)
-  yesChecked : m .phase ≡ P.WaitingNumericComparisonResult true → Raised I.PassKeyConfirm c → m .secrets .held ≡ c .supplied .ea → Edge m c (checked m (c .supplied))
+  yesChecked : m .phase ≡ P.WaitingNumericComparisonResult true → Raised I.PassKeyConfirm c → m .secrets .held ≡ c .supplied .peercheck → Edge m c (checked m (c .supplied))
   -- WaitingPassKeyInput
   heldConfirm : {v : List ℕ} → m .phase ≡ P.WaitingPassKeyInput false → Command 0x03 16 v c
       → Edge m c (goes (to m (P.WaitingPassKeyInput true) (setHeld (m .secrets) (flip v))) [] E.Nothing)
@@ -93,15 +94,15 @@ pub data Edge (m : State) (c : Call) : Outcome → Type 0 where
       → Edge m c (confirming m (setPasskey (m .secrets) p) 0 (m .secrets .held) (c .supplied))
   -- WaitingPassKeyEntryConfirm and WaitingPassKeyEntryRandom
   confirm : {r : ℕ} {v : List ℕ} → m .phase ≡ P.WaitingPassKeyEntryConfirm r → Command 0x03 16 v c → Edge m c (confirming m (m .secrets) r (flip v) (c .supplied))
-  random : {r : ℕ} {w : List ℕ} → m .phase ≡ P.WaitingPassKeyEntryRandom r → Matching (m .secrets .ca) w c
-      → Edge m c (goes (to m (waits (afterOf r)) (setNa (m .secrets) (flip w))) (pairingRandom (m .secrets .nb)) E.Nothing)
+  random : {r : ℕ} {w : List ℕ} → m .phase ≡ P.WaitingPassKeyEntryRandom r → Matching (m .secrets .confirm) w c
+      → Edge m c (goes (to m (waits (afterOf r)) (setPeerNonce (m .secrets) (flip w))) (pairingRandom (m .secrets .ownnonce)) E.Nothing)
   -- WaitingOobData and WaitingOobRandom
   oobData : (o : OobData) → m .phase ≡ P.WaitingOobData → c .input ≡ event I.OobDataReceived o → agrees o (c .supplied) ≡ true
-      → Edge m c (goes (to m P.WaitingOobRandom (setOob (m .secrets) (o .random) (cond (set (m .features .oob)) (o .local) (zeros 16)))) [] E.Nothing)
+      → Edge m c (goes (to m P.WaitingOobRandom (setOob (m .secrets) (o .peerrandom) (cond (set (m .features .oob)) (o .ownrandom) (zeros 16)))) [] E.Nothing)
   oobRandom : {w : List ℕ} → m .phase ≡ P.WaitingOobRandom → Command 0x04 16 w c
       → Edge m c (goes (to m P.WaitingDHKeyEa (setNonces (m .secrets) (flip w) (c .supplied .nonce))) (pairingRandom (c .supplied .nonce)) E.Nothing)
   -- WaitingDHKeyEa
-  check : {w : List ℕ} → m .phase ≡ P.WaitingDHKeyEa → Command 0x0D 16 w c → flip w ≡ c .supplied .ea → Edge m c (checked m (c .supplied))
+  check : {w : List ℕ} → m .phase ≡ P.WaitingDHKeyEa → Command 0x0D 16 w c → flip w ≡ c .supplied .peercheck → Edge m c (checked m (c .supplied))
   -- WaitingLinkEncrypted
   linkKeys : m .phase ≡ P.WaitingLinkEncrypted → Raised (I.LinkEncryptedResult true) c → identityBit (m .features .initiator) ≡ true
       → Edge m c (goes (at m P.WaitingIdentitityInformation) (ourIdentity m) E.Nothing)

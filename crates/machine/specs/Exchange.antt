@@ -9,25 +9,25 @@ use Rattle.method.specs.declared.PairingMethod.{PairingMethod}
 use Rattle.method.specs.declared.PairingMethod.the-variants.{JustWorks, NumericComparison, PassKeyEntry, OutOfBand}
 use Rattle.rounds.specs.Rounds.{inRange}
 use Rattle.frames.specs.Frames.{publicKey, pairingConfirm}
-use Rattle.machine.specs.declared.Failure.{Failure}
-use Rattle.machine.specs.declared.Configured.{Configured}
+use Rattle.protocol.specs.declared.Failure.{Failure}
+use Rattle.protocol.specs.declared.Configured.{Configured}
+use Rattle.protocol.specs.declared.Secrets.{Secrets}
+use Rattle.protocol.specs.declared.Supplied.{Supplied}
+use Rattle.protocol.specs.declared.Failure.the-variants as F
+use Rattle.protocol.specs.declared.Configured.the-variants as C
+use Rattle.protocol.specs.declared.ConnectionEvent.the-variants as E
+use Rattle.protocol.specs.declared.Refusal.the-variants as R
 use Rattle.machine.specs.declared.State.{State}
-use Rattle.machine.specs.declared.Secrets.{Secrets}
-use Rattle.machine.specs.declared.Supplied.{Supplied}
-use Rattle.machine.specs.declared.Failure.the-variants as F
-use Rattle.machine.specs.declared.Configured.the-variants as C
-use Rattle.machine.specs.declared.ConnectionEvent.the-variants as E
 use Rattle.machine.specs.declared.Phase.the-variants as P
-use Rattle.machine.specs.declared.Refusal.the-variants as R
 use Rattle.machine.specs.Outcome.{Outcome, to, refused, goes, need, expect}
-use Rattle.machine.specs.Secrets.{fresh, setNb, setPasskey}
+use Rattle.machine.specs.Secrets.{fresh, setOwnNonce, setPasskey}
 
 abbrev pub ourKey : State → List ℕ
-ourKey m = publicKey (m .setup .pkbx) (m .setup .pkby)
+ourKey m = publicKey (m .setup .keyx) (m .setup .keyy)
 
--- Just Works and numeric comparison: our nonce is drawn, and our confirm f4(PKbx, PKax, Nb, 0) goes with our key
+-- Just Works and numeric comparison: our nonce is drawn, and our confirm f4(our x, peer x, our nonce, 0) goes with our key
 abbrev pub comparing : State → Secrets → Supplied → Outcome
-comparing m s a = goes (to m P.WaitingNumericComparisonRandom (setNb s (a .nonce))) (ourKey m ++ pairingConfirm (a .f4)) E.Nothing
+comparing m s a = goes (to m P.WaitingNumericComparisonRandom (setOwnNonce s (a .nonce))) (ourKey m ++ pairingConfirm (a .ownconfirm)) E.Nothing
 
 -- the passkey is shown here: it becomes both secrets
 abbrev pub showing : State → Secrets → ℕ → Outcome

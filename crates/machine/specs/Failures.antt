@@ -5,14 +5,14 @@ use mathlib.Core.Logic.{_⊎_}
 use mathlib.Core.List.{List, [], _∷_, map}
 use mathlib.Core.Bool.{Bool, true, false}
 use lib.ListN.{getD}
-use Rattle.machine.specs.declared.Failure.{Failure}
-use Rattle.machine.specs.declared.Failure.the-variants as F
+use Rattle.protocol.specs.declared.Failure.{Failure}
+use Rattle.protocol.specs.declared.Failure.the-variants as F
+use Rattle.protocol.specs.declared.ConnectionEvent.{ConnectionEvent}
+use Rattle.protocol.specs.declared.ConnectionEvent.the-variants as E
+use Rattle.protocol.specs.declared.QuestionKind.{QuestionKind}
+use Rattle.protocol.specs.declared.QuestionKind.the-variants as Q
+use Rattle.protocol.specs.declared.Question.{Question}
 use Rattle.machine.specs.declared.Phase.the-variants as P
-use Rattle.machine.specs.declared.ConnectionEvent.{ConnectionEvent}
-use Rattle.machine.specs.declared.ConnectionEvent.the-variants as E
-use Rattle.machine.specs.declared.QuestionKind.{QuestionKind}
-use Rattle.machine.specs.declared.QuestionKind.the-variants as Q
-use Rattle.machine.specs.declared.Question.{Question}
 use Rattle.machine.specs.declared.State.{State}
 use Rattle.machine.specs.Outcome.{Outcome, at, noAction}
 use Rattle.machine.specs.Step.{Input, command}
@@ -52,8 +52,8 @@ byAnswer F.KeyRejected = false
 pub data Asked : Failure → List QuestionKind → Type 0 where
   nothing : {f : Failure} → byAnswer f ≡ false → Asked f []
   key : Asked F.DHKeyCheckFailed (Q.DH ∷ [])
-  confirm : Asked F.ConfirmValueFailed (Q.F4 ∷ [])
-  check : Asked F.DHKeyCheckFailed (Q.F5 ∷ Q.Ea ∷ [])
+  confirm : Asked F.ConfirmValueFailed (Q.PeerConfirm ∷ [])
+  check : Asked F.DHKeyCheckFailed (Q.F5 ∷ Q.PeerCheck ∷ [])
 
 -- the kinds of the questions, in order
 abbrev pub kinds : List Question → List QuestionKind

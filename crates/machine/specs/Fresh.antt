@@ -5,9 +5,9 @@ use Rattle.features.specs.declared.IoCapabilities.the-variants.{NoInputNoOutput
 use Rattle.features.specs.declared.UseOutOfBand.the-variants.{NotPresent}
 use Rattle.features.specs.declared.PairingFeatures.{PairingFeatures}
 use Rattle.method.specs.declared.PairingMethod.the-variants.{JustWorks}
+use Rattle.protocol.specs.declared.MaybeBond.{MaybeBond}
+use Rattle.protocol.specs.declared.Setup.{Setup}
 use Rattle.machine.specs.declared.Phase.the-variants as P
-use Rattle.machine.specs.declared.MaybeBond.{MaybeBond}
-use Rattle.machine.specs.declared.Setup.{Setup}
 use Rattle.machine.specs.declared.State.{State}
 use Rattle.machine.specs.Outcome.{noBond}
 use Rattle.machine.specs.Secrets.{fresh}

@@ -5,11 +5,11 @@ use mathlib.Core.Bool.{Bool, not}
 use lib.ListN.{length}
 use lib.Dec.{eqb}
 use Rattle.octets.specs.Octets.{flip}
-use Rattle.machine.specs.declared.Failure.{Failure}
+use Rattle.protocol.specs.declared.Failure.{Failure}
+use Rattle.protocol.specs.declared.Failure.the-variants as F
+use Rattle.protocol.specs.declared.ConnectionEvent.the-variants as E
 use Rattle.machine.specs.declared.Phase.{Phase}
 use Rattle.machine.specs.declared.State.{State}
-use Rattle.machine.specs.declared.Failure.the-variants as F
-use Rattle.machine.specs.declared.ConnectionEvent.the-variants as E
 use Rattle.machine.specs.Outcome.{Outcome, to, goes, need}
 use Rattle.machine.specs.Secrets.{setHeld}
 

@@ -8,14 +8,14 @@ use Rattle.address.specs.declared.Address.{Address}
 use Rattle.address.specs.Identity.{decodeOf}
 use Rattle.features.specs.Bits.{identityBit}
 use Rattle.frames.specs.Frames.{identityInformation, identityAddress}
-use Rattle.machine.specs.declared.Event.{Event}
-use Rattle.machine.specs.declared.Event.the-variants as I
-use Rattle.machine.specs.declared.Failure.{Failure}
-use Rattle.machine.specs.declared.Bond.{Bond}
-use Rattle.machine.specs.declared.MaybeBond.{MaybeBond}
+use Rattle.protocol.specs.declared.Event.{Event}
+use Rattle.protocol.specs.declared.Event.the-variants as I
+use Rattle.protocol.specs.declared.Failure.{Failure}
+use Rattle.protocol.specs.declared.Bond.{Bond}
+use Rattle.protocol.specs.declared.MaybeBond.{MaybeBond}
+use Rattle.protocol.specs.declared.Failure.the-variants as F
+use Rattle.protocol.specs.declared.ConnectionEvent.the-variants as E
 use Rattle.machine.specs.declared.State.{State}
-use Rattle.machine.specs.declared.Failure.the-variants as F
-use Rattle.machine.specs.declared.ConnectionEvent.the-variants as E
 use Rattle.machine.specs.declared.Phase.the-variants as P
 use Rattle.machine.specs.Outcome.{Outcome, at, bonded, goes, succeeds, need, expect, unlisted}
 use Rattle.machine.specs.Request.{localFeatures}

@@ -1,5 +1,4 @@
 -- The definitions of `machine`, file by file.
-pub mod Numbers
 pub mod Outcome
 pub mod Secrets
 pub mod Hold

@@ -6,29 +6,29 @@ use Rattle.octets.specs.Octets.{flip}
 use Rattle.method.specs.declared.PairingMethod.{PairingMethod}
 use Rattle.method.specs.declared.PairingMethod.the-variants.{JustWorks, NumericComparison, PassKeyEntry, OutOfBand}
 use Rattle.frames.specs.Frames.{pairingRandom}
-use Rattle.machine.specs.declared.Event.{Event}
-use Rattle.machine.specs.declared.Event.the-variants as I
-use Rattle.machine.specs.declared.Failure.{Failure}
+use Rattle.protocol.specs.declared.Event.{Event}
+use Rattle.protocol.specs.declared.Event.the-variants as I
+use Rattle.protocol.specs.declared.Failure.{Failure}
+use Rattle.protocol.specs.declared.Supplied.{Supplied}
+use Rattle.protocol.specs.declared.Failure.the-variants as F
+use Rattle.protocol.specs.declared.ConnectionEvent.the-variants as E
 use Rattle.machine.specs.declared.State.{State}
-use Rattle.machine.specs.declared.Supplied.{Supplied}
-use Rattle.machine.specs.declared.Failure.the-variants as F
-use Rattle.machine.specs.declared.ConnectionEvent.the-variants as E
 use Rattle.machine.specs.declared.Phase.the-variants as P
 use Rattle.machine.specs.Outcome.{Outcome, at, to, failing, goes, expect, unlisted}
-use Rattle.machine.specs.Secrets.{setNa}
+use Rattle.machine.specs.Secrets.{setPeerNonce}
 use Rattle.machine.specs.Hold.{holding}
 use Rattle.machine.specs.Check.{checking}
 
 abbrev asks : State → List ℕ → ℕ → Outcome
-asks m na g2 =
-    goes (to m (P.WaitingNumericComparisonResult false) (setNa (m .secrets) na)) (pairingRandom (m .secrets .nb)) (E.PassKeyConfirm (g2 % 1000000))
+asks m nonce g2 =
+    goes (to m (P.WaitingNumericComparisonResult false) (setPeerNonce (m .secrets) nonce)) (pairingRandom (m .secrets .ownnonce)) (E.PassKeyConfirm (g2 % 1000000))
 
--- Just Works goes on; else the user compares g2(PKax, PKbx, Na, Nb), six decimal digits
+-- Just Works goes on; else the user compares g2(peer x, our x, peer nonce, our nonce), six decimal digits
 abbrev pub compares : PairingMethod → State → List ℕ → ℕ → Outcome
-compares JustWorks m na g2 = goes (to m P.WaitingDHKeyEa (setNa (m .secrets) na)) (pairingRandom (m .secrets .nb)) E.Nothing
-compares NumericComparison m na g2 = asks m na g2
-compares (PassKeyEntry central peripheral) m na g2 = asks m na g2
-compares OutOfBand m na g2 = asks m na g2
+compares JustWorks m nonce g2 = goes (to m P.WaitingDHKeyEa (setPeerNonce (m .secrets) nonce)) (pairingRandom (m .secrets .ownnonce)) E.Nothing
+compares NumericComparison m nonce g2 = asks m nonce g2
+compares (PassKeyEntry central peripheral) m nonce g2 = asks m nonce g2
+compares OutOfBand m nonce g2 = asks m nonce g2
 
 -- a command in WaitingNumericComparisonRandom
 abbrev pub comparisonRandomOf : State → ℕ → List ℕ → Supplied → Outcome

@@ -14,13 +14,13 @@ use Rattle.method.specs.declared.PairingMethod.the-variants.{JustWorks, Numeric
 use Rattle.method.specs.declared.PassKeyEntryAction.{PassKeyEntryAction}
 use Rattle.method.specs.declared.PassKeyEntryAction.the-variants as W
 use Rattle.method.specs.Method.{methodOf}
-use Rattle.machine.specs.declared.Configured.{Configured}
-use Rattle.machine.specs.declared.Configured.the-variants as C
-use Rattle.machine.specs.declared.Event.{Event}
-use Rattle.machine.specs.declared.Event.the-variants as I
-use Rattle.machine.specs.declared.OobData.{OobData}
+use Rattle.protocol.specs.declared.Configured.{Configured}
+use Rattle.protocol.specs.declared.Configured.the-variants as C
+use Rattle.protocol.specs.declared.Event.{Event}
+use Rattle.protocol.specs.declared.Event.the-variants as I
+use Rattle.protocol.specs.declared.OobData.{OobData}
+use Rattle.protocol.specs.declared.Setup.{Setup}
 use Rattle.machine.specs.declared.Phase.the-variants as P
-use Rattle.machine.specs.declared.Setup.{Setup}
 use Rattle.machine.specs.declared.State.{State}
 use Rattle.machine.specs.Request.{localFeatures}
 use Rattle.machine.specs.Step.{Call, command, event}
@@ -63,10 +63,10 @@ pub record Typed (p : ℕ) (c : Call) : Type 0 where
   pub brings : Raised (I.PassKeyInput p) c
   pub range : p ≤ 999999
 
--- a random whose supplied f4 is the confirm v, both most significant octet first
+-- a random whose supplied `peerconfirm` is the confirm v, both most significant octet first
 pub record Matching (v w : List ℕ) (c : Call) : Type 0 where
   pub brings : Command 0x04 16 w c
-  pub equal : v ≡ c .supplied .f4
+  pub equal : v ≡ c .supplied .peerconfirm
 
 -- The history
 

@@ -7,23 +7,23 @@ use Rattle.rounds.specs.declared.Following.{Following}
 use Rattle.rounds.specs.declared.Following.the-variants.{Round, DHKeyCheck}
 use Rattle.rounds.specs.Rounds.{afterOf}
 use Rattle.frames.specs.Frames.{pairingConfirm, pairingRandom}
-use Rattle.machine.specs.declared.Event.{Event}
-use Rattle.machine.specs.declared.Event.the-variants as I
-use Rattle.machine.specs.declared.Failure.{Failure}
+use Rattle.protocol.specs.declared.Event.{Event}
+use Rattle.protocol.specs.declared.Event.the-variants as I
+use Rattle.protocol.specs.declared.Failure.{Failure}
+use Rattle.protocol.specs.declared.Secrets.{Secrets}
+use Rattle.protocol.specs.declared.Supplied.{Supplied}
+use Rattle.protocol.specs.declared.Failure.the-variants as F
+use Rattle.protocol.specs.declared.ConnectionEvent.the-variants as E
 use Rattle.machine.specs.declared.Phase.{Phase}
 use Rattle.machine.specs.declared.State.{State}
-use Rattle.machine.specs.declared.Secrets.{Secrets}
-use Rattle.machine.specs.declared.Supplied.{Supplied}
-use Rattle.machine.specs.declared.Failure.the-variants as F
-use Rattle.machine.specs.declared.ConnectionEvent.the-variants as E
 use Rattle.machine.specs.declared.Phase.the-variants as P
 use Rattle.machine.specs.Outcome.{Outcome, to, failing, goes, need, expect, unlisted}
-use Rattle.machine.specs.Secrets.{setConfirm, setNa, setPasskey}
+use Rattle.machine.specs.Secrets.{setConfirm, setPeerNonce, setPasskey}
 use Rattle.machine.specs.Hold.{holding}
 
--- round r's confirm: it is kept, our nonce is drawn, and f4(PKbx, PKax, Nb, z) answers it
+-- round r's confirm: it is kept, our nonce is drawn, and f4(our x, peer x, our nonce, z) answers it
 abbrev pub confirming : State → Secrets → ℕ → List ℕ → Supplied → Outcome
-confirming m s r ca a = goes (to m (P.WaitingPassKeyEntryRandom r) (setConfirm s ca (a .nonce))) (pairingConfirm (a .f4)) E.Nothing
+confirming m s r confirm a = goes (to m (P.WaitingPassKeyEntryRandom r) (setConfirm s confirm (a .nonce))) (pairingConfirm (a .ownconfirm)) E.Nothing
 
 -- a command in WaitingPassKeyInput: an early confirm is held
 abbrev pub holdConfirmOf : State → Bool → ℕ → List ℕ → Outcome
@@ -43,12 +43,12 @@ abbrev pub waits : Following → Phase
 waits (Round r) = P.WaitingPassKeyEntryConfirm r
 waits DHKeyCheck = P.WaitingDHKeyEa
 
--- a command in WaitingPassKeyEntryRandom, round r: the kept confirm against f4(PKax, PKbx, Na, z), and then our nonce
+-- a command in WaitingPassKeyEntryRandom, round r: the kept confirm against f4(peer x, our x, peer nonce, z), and then our nonce
 abbrev pub randomOf : State → ℕ → ℕ → List ℕ → Supplied → Outcome
 randomOf m r code body a =
     expect m code 0x04 body 16 F.InvalidParameters
-    (need m (same (m .secrets .ca) (a .f4)) F.ConfirmValueFailed
-    (goes (to m (waits (afterOf r)) (setNa (m .secrets) (flip body))) (pairingRandom (m .secrets .nb)) E.Nothing))
+    (need m (same (m .secrets .confirm) (a .peerconfirm)) F.ConfirmValueFailed
+    (goes (to m (waits (afterOf r)) (setPeerNonce (m .secrets) (flip body))) (pairingRandom (m .secrets .ownnonce)) E.Nothing))
 
 -- an event in WaitingPassKeyInput
 abbrev pub typingEvent : State → Bool → Event → Supplied → Outcome

@@ -11,17 +11,17 @@ use Rattle.address.specs.declared.AddressKind.the-variants.{Public}
 use Rattle.features.specs.Features.{ioCapOf}
 use Rattle.method.specs.declared.PairingMethod.{PairingMethod}
 use Rattle.method.specs.declared.PairingMethod.the-variants.{JustWorks, NumericComparison, PassKeyEntry, OutOfBand}
+use Rattle.protocol.specs.declared.Event.{Event}
+use Rattle.protocol.specs.declared.OobData.{OobData}
+use Rattle.protocol.specs.declared.Supplied.{Supplied}
+use Rattle.protocol.specs.declared.QuestionKind.{QuestionKind}
+use Rattle.protocol.specs.declared.Question.{Question}
+use Rattle.protocol.specs.declared.Given.{Given}
+use Rattle.protocol.specs.declared.Event.the-variants as I
+use Rattle.protocol.specs.declared.QuestionKind.the-variants as Q
 use Rattle.machine.specs.declared.Phase.{Phase}
-use Rattle.machine.specs.declared.Event.{Event}
-use Rattle.machine.specs.declared.OobData.{OobData}
 use Rattle.machine.specs.declared.State.{State}
-use Rattle.machine.specs.declared.Supplied.{Supplied}
-use Rattle.machine.specs.declared.QuestionKind.{QuestionKind}
-use Rattle.machine.specs.declared.Question.{Question}
-use Rattle.machine.specs.declared.Given.{Given}
 use Rattle.machine.specs.declared.Phase.the-variants as P
-use Rattle.machine.specs.declared.Event.the-variants as I
-use Rattle.machine.specs.declared.QuestionKind.the-variants as Q
 use Rattle.machine.specs.Outcome.{finishedPhase}
 use Rattle.machine.specs.Request.{localFeatures}
 use Rattle.machine.specs.Step.{Input, command, event, ranged}
@@ -44,9 +44,9 @@ askDh x y =
     record { kind = Q.DH; u = x; v = y; key = zeros 16; n1 = zeros 16; n2 = zeros 16; r = zeros 16; z = 0; iocap = zeros 3; a1 = nowhere; a2 = nowhere }
 
 -- Part H 2.2.6
-abbrev pub askF4 : List ℕ → List ℕ → List ℕ → ℕ → Question
-askF4 u v x z =
-    record { kind = Q.F4; u = u; v = v; key = zeros 16; n1 = x; n2 = zeros 16; r = zeros 16; z = z; iocap = zeros 3; a1 = nowhere; a2 = nowhere }
+abbrev pub askF4 : QuestionKind → List ℕ → List ℕ → List ℕ → ℕ → Question
+askF4 kind u v x z =
+    record { kind = kind; u = u; v = v; key = zeros 16; n1 = x; n2 = zeros 16; r = zeros 16; z = z; iocap = zeros 3; a1 = nowhere; a2 = nowhere }
 
 -- Part H 2.2.9
 abbrev pub askG2 : List ℕ → List ℕ → List ℕ → List ℕ → Question
@@ -69,39 +69,39 @@ asks code k body n qs = cond (eqb code k && eqb (length body) n) qs []
 
 -- WaitingPublicKey: DH, and behind a valid key the confirm of Just Works and numeric comparison (Part H 2.3.5.6.2)
 abbrev pub keyAsks : PairingMethod → State → List ℕ → Supplied → List Question
-keyAsks JustWorks m x a = askF4 (m .setup .pkbx) x (a .nonce) 0 ∷ []
-keyAsks NumericComparison m x a = askF4 (m .setup .pkbx) x (a .nonce) 0 ∷ []
+keyAsks JustWorks m x a = askF4 Q.OwnConfirm (m .setup .keyx) x (a .nonce) 0 ∷ []
+keyAsks NumericComparison m x a = askF4 Q.OwnConfirm (m .setup .keyx) x (a .nonce) 0 ∷ []
 keyAsks (PassKeyEntry central peripheral) m x a = []
 keyAsks OutOfBand m x a = []
 
 -- WaitingNumericComparisonRandom: the number to compare; Just Works shows none
 abbrev pub compareAsks : PairingMethod → State → List ℕ → List Question
-compareAsks JustWorks m na = []
-compareAsks NumericComparison m na = askG2 (m .secrets .pkax) (m .setup .pkbx) na (m .secrets .nb) ∷ []
-compareAsks (PassKeyEntry central peripheral) m na = askG2 (m .secrets .pkax) (m .setup .pkbx) na (m .secrets .nb) ∷ []
-compareAsks OutOfBand m na = askG2 (m .secrets .pkax) (m .setup .pkbx) na (m .secrets .nb) ∷ []
+compareAsks JustWorks m nonce = []
+compareAsks NumericComparison m nonce = askG2 (m .secrets .peerx) (m .setup .keyx) nonce (m .secrets .ownnonce) ∷ []
+compareAsks (PassKeyEntry central peripheral) m nonce = askG2 (m .secrets .peerx) (m .setup .keyx) nonce (m .secrets .ownnonce) ∷ []
+compareAsks OutOfBand m nonce = askG2 (m .secrets .peerx) (m .setup .keyx) nonce (m .secrets .ownnonce) ∷ []
 
 -- a round's confirm of ours, with a passkey; and the peer's, against its nonce (Part H 2.3.5.6.3)
 abbrev pub confirmAsks : State → ℕ → ℕ → Supplied → List Question
-confirmAsks m passkey r a = askF4 (m .setup .pkbx) (m .secrets .pkax) (a .nonce) (zOf passkey r) ∷ []
+confirmAsks m passkey r a = askF4 Q.OwnConfirm (m .setup .keyx) (m .secrets .peerx) (a .nonce) (zOf passkey r) ∷ []
 
 abbrev pub randomAsks : State → ℕ → List ℕ → List Question
-randomAsks m r na = askF4 (m .secrets .pkax) (m .setup .pkbx) na (zOf (m .secrets .passkey) r) ∷ []
+randomAsks m r nonce = askF4 Q.PeerConfirm (m .secrets .peerx) (m .setup .keyx) nonce (zOf (m .secrets .passkey) r) ∷ []
 
 -- WaitingDHKeyEa: f5, the peer's check, and ours where the peer's is right (Part H 2.3.5.6.5). f5 and f6 take the connection's addresses
 abbrev pub askLtk : State → Question
-askLtk m = askF5 (m .secrets .dhkey) (m .secrets .na) (m .secrets .nb) (m .setup .peer) (m .setup .local)
+askLtk m = askF5 (m .secrets .dhkey) (m .secrets .peernonce) (m .secrets .ownnonce) (m .setup .peer) (m .setup .own)
 
-abbrev pub askEa : State → Supplied → Question
-askEa m a =
-    askF6 Q.Ea (a .mackey) (m .secrets .na) (m .secrets .nb) (m .secrets .rb) (ioCapOf (m .features)) (m .setup .peer) (m .setup .local)
+abbrev pub askPeerCheck : State → Supplied → Question
+askPeerCheck m a =
+    askF6 Q.PeerCheck (a .mackey) (m .secrets .peernonce) (m .secrets .ownnonce) (m .secrets .ownsecret) (ioCapOf (m .features)) (m .setup .peer) (m .setup .own)
 
-abbrev pub askEb : State → Supplied → Question
-askEb m a =
-    askF6 Q.Eb (a .mackey) (m .secrets .nb) (m .secrets .na) (m .secrets .ra) (ioCapOf (localFeatures (m .setup) (m .features))) (m .setup .local) (m .setup .peer)
+abbrev pub askOwnCheck : State → Supplied → Question
+askOwnCheck m a =
+    askF6 Q.OwnCheck (a .mackey) (m .secrets .ownnonce) (m .secrets .peernonce) (m .secrets .peersecret) (ioCapOf (localFeatures (m .setup) (m .features))) (m .setup .own) (m .setup .peer)
 
 abbrev pub checkAsks : State → Bool → List ℕ → Supplied → List Question
-checkAsks m whole ea a = askLtk m ∷ askEa m a ∷ cond (whole && same ea (a .ea)) (askEb m a ∷ []) []
+checkAsks m whole value a = askLtk m ∷ askPeerCheck m a ∷ cond (whole && same value (a .peercheck)) (askOwnCheck m a ∷ []) []
 
 -- the questions of a command, by the phase
 abbrev pub commandAsks : Phase → State → ℕ → List ℕ → Supplied → List Question
@@ -132,7 +132,7 @@ typedAsks m true p a = confirmAsks m p 0 a
 typedAsks m false p a = []
 
 abbrev pub oobAsks : State → OobData → List Question
-oobAsks m o = cond (allZero (o .random) && allZero (o .confirm)) [] (askF4 (m .secrets .pkax) (m .secrets .pkax) (o .random) 0 ∷ [])
+oobAsks m o = cond (allZero (o .peerrandom) && allZero (o .peerconfirm)) [] (askF4 Q.PeerConfirm (m .secrets .peerx) (m .secrets .peerx) (o .peerrandom) 0 ∷ [])
 
 abbrev pub comparisonAsks : State → Bool → Event → Supplied → List Question
 comparisonAsks m held (I.LinkEncryptedResult ok) a = []
@@ -184,11 +184,12 @@ questions m i a = cond (finishedPhase (m .phase)) [] (cond (ranged i) (inputAsks
 abbrev pub answered : Given → QuestionKind → Bool
 answered g Q.Nothing = true
 answered g Q.DH = g .dh
-answered g Q.F4 = g .f4
+answered g Q.OwnConfirm = g .ownconfirm
+answered g Q.PeerConfirm = g .peerconfirm
 answered g Q.G2 = g .g2
 answered g Q.F5 = g .f5
-answered g Q.Ea = g .ea
-answered g Q.Eb = g .eb
+answered g Q.PeerCheck = g .peercheck
+answered g Q.OwnCheck = g .owncheck
 
 -- the first without an answer
 unfoldable pub nextOf : Given → List Question → Question

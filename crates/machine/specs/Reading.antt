@@ -8,18 +8,18 @@ use Rattle.octets.specs.Octets.{zeros}
 use Rattle.method.specs.declared.PassKeyEntryAction.the-variants as W
 use Rattle.method.specs.declared.PairingMethod.{PairingMethod}
 use Rattle.method.specs.declared.PairingMethod.the-variants.{JustWorks, NumericComparison, PassKeyEntry, OutOfBand}
+use Rattle.protocol.specs.declared.Event.{Event}
+use Rattle.protocol.specs.declared.Configured.{Configured}
+use Rattle.protocol.specs.declared.Supplied.{Supplied}
+use Rattle.protocol.specs.declared.QuestionKind.{QuestionKind}
+use Rattle.protocol.specs.declared.Question.{Question}
+use Rattle.protocol.specs.declared.Given.{Given}
+use Rattle.protocol.specs.declared.Event.the-variants as I
+use Rattle.protocol.specs.declared.Configured.the-variants as C
+use Rattle.protocol.specs.declared.QuestionKind.the-variants as Q
 use Rattle.machine.specs.declared.Phase.{Phase}
-use Rattle.machine.specs.declared.Event.{Event}
-use Rattle.machine.specs.declared.Configured.{Configured}
 use Rattle.machine.specs.declared.State.{State}
-use Rattle.machine.specs.declared.Supplied.{Supplied}
-use Rattle.machine.specs.declared.QuestionKind.{QuestionKind}
-use Rattle.machine.specs.declared.Question.{Question}
-use Rattle.machine.specs.declared.Given.{Given}
 use Rattle.machine.specs.declared.Phase.the-variants as P
-use Rattle.machine.specs.declared.Event.the-variants as I
-use Rattle.machine.specs.declared.Configured.the-variants as C
-use Rattle.machine.specs.declared.QuestionKind.the-variants as Q
 use Rattle.machine.specs.Outcome.{finishedPhase}
 use Rattle.machine.specs.Step.{Input, command, event, ranged}
 use Rattle.machine.specs.Questions.{questions}
@@ -107,11 +107,12 @@ isPasskey passkey = true
 abbrev pub slot : QuestionKind → ℕ
 slot Q.Nothing = 0
 slot Q.DH = 1
-slot Q.F4 = 2
-slot Q.G2 = 3
-slot Q.F5 = 4
-slot Q.Ea = 5
-slot Q.Eb = 6
+slot Q.OwnConfirm = 2
+slot Q.PeerConfirm = 3
+slot Q.G2 = 4
+slot Q.F5 = 5
+slot Q.PeerCheck = 6
+slot Q.OwnCheck = 7
 
 -- whether a kind of question is among those asked
 abbrev pub among : QuestionKind → List Question → Bool
@@ -126,12 +127,13 @@ only qs d a =
       passkey = cond (isPasskey d) (a .passkey) 0;
       dhvalid = cond (among Q.DH qs) (a .dhvalid) false;
       dhkey = cond (among Q.DH qs) (a .dhkey) (zeros 32);
-      f4 = cond (among Q.F4 qs) (a .f4) (zeros 16);
+      ownconfirm = cond (among Q.OwnConfirm qs) (a .ownconfirm) (zeros 16);
+      peerconfirm = cond (among Q.PeerConfirm qs) (a .peerconfirm) (zeros 16);
       g2 = cond (among Q.G2 qs) (a .g2) 0;
       mackey = cond (among Q.F5 qs) (a .mackey) (zeros 16);
       ltk = cond (among Q.F5 qs) (a .ltk) (zeros 16);
-      ea = cond (among Q.Ea qs) (a .ea) (zeros 16);
-      eb = cond (among Q.Eb qs) (a .eb) (zeros 16);
+      peercheck = cond (among Q.PeerCheck qs) (a .peercheck) (zeros 16);
+      owncheck = cond (among Q.OwnCheck qs) (a .owncheck) (zeros 16);
     }
 
 -- what a call is handed, with zeros for what it does not announce
@@ -146,10 +148,11 @@ sofar g a =
       passkey = a .passkey;
       dhvalid = cond (g .dh) (a .dhvalid) false;
       dhkey = cond (g .dh) (a .dhkey) (zeros 32);
-      f4 = cond (g .f4) (a .f4) (zeros 16);
+      ownconfirm = cond (g .ownconfirm) (a .ownconfirm) (zeros 16);
+      peerconfirm = cond (g .peerconfirm) (a .peerconfirm) (zeros 16);
       g2 = cond (g .g2) (a .g2) 0;
       mackey = cond (g .f5) (a .mackey) (zeros 16);
       ltk = cond (g .f5) (a .ltk) (zeros 16);
-      ea = cond (g .ea) (a .ea) (zeros 16);
-      eb = cond (g .eb) (a .eb) (zeros 16);
+      peercheck = cond (g .peercheck) (a .peercheck) (zeros 16);
+      owncheck = cond (g .owncheck) (a .owncheck) (zeros 16);
     }

@@ -14,16 +14,16 @@ use Rattle.features.specs.Bits.{secureConnectionsBit, identityBit, ourAuthReq}
 use Rattle.method.specs.declared.Kind.the-variants.{SecureConnections}
 use Rattle.method.specs.Method.{methodOf}
 use Rattle.frames.specs.Frames.{pairingResponse}
-use Rattle.machine.specs.declared.Failure.{Failure}
-use Rattle.machine.specs.declared.Acceptance.{Acceptance}
-use Rattle.machine.specs.declared.ConnectionEvent.{ConnectionEvent}
-use Rattle.machine.specs.declared.Setup.{Setup}
+use Rattle.protocol.specs.declared.Failure.{Failure}
+use Rattle.protocol.specs.declared.Acceptance.{Acceptance}
+use Rattle.protocol.specs.declared.ConnectionEvent.{ConnectionEvent}
+use Rattle.protocol.specs.declared.Setup.{Setup}
+use Rattle.protocol.specs.declared.Failure.the-variants as F
+use Rattle.protocol.specs.declared.Acceptance.the-variants.{Accepted, Rejected}
+use Rattle.protocol.specs.declared.ConnectionEvent.the-variants as E
+use Rattle.protocol.specs.declared.Answer.the-variants as A
 use Rattle.machine.specs.declared.State.{State}
-use Rattle.machine.specs.declared.Failure.the-variants as F
-use Rattle.machine.specs.declared.Acceptance.the-variants.{Accepted, Rejected}
-use Rattle.machine.specs.declared.ConnectionEvent.the-variants as E
 use Rattle.machine.specs.declared.Phase.the-variants as P
-use Rattle.machine.specs.declared.Answer.the-variants as A
 use Rattle.machine.specs.Outcome.{Outcome, failing, need, noAction}
 
 -- the tests of a request, in their order

@@ -19,17 +19,17 @@ use Rattle.method.specs.declared.PassKeyEntryAction.the-variants as W
 use Rattle.method.specs.declared.PairingMethod.{PairingMethod}
 use Rattle.method.specs.declared.PairingMethod.the-variants.{JustWorks, NumericComparison, PassKeyEntry, OutOfBand}
 use Rattle.method.specs.Method.{methodOf}
-use Rattle.machine.specs.declared.Answer.{Answer}
-use Rattle.machine.specs.declared.Answer.the-variants as A
+use Rattle.protocol.specs.declared.Answer.{Answer}
+use Rattle.protocol.specs.declared.Answer.the-variants as A
+use Rattle.protocol.specs.declared.Failure.the-variants as F
+use Rattle.protocol.specs.declared.Event.the-variants as I
+use Rattle.protocol.specs.declared.Configured.the-variants as C
+use Rattle.protocol.specs.declared.Setup.{Setup}
+use Rattle.protocol.specs.declared.Supplied.{Supplied}
+use Rattle.protocol.specs.Numbers.{failureNumber, refusalNumber}
 use Rattle.machine.specs.declared.Phase.{Phase}
 use Rattle.machine.specs.declared.Phase.the-variants as P
-use Rattle.machine.specs.declared.Failure.the-variants as F
-use Rattle.machine.specs.declared.Event.the-variants as I
-use Rattle.machine.specs.declared.Configured.the-variants as C
-use Rattle.machine.specs.declared.Setup.{Setup}
 use Rattle.machine.specs.declared.State.{State}
-use Rattle.machine.specs.declared.Supplied.{Supplied}
-use Rattle.machine.specs.Numbers.{failureNumber, refusalNumber}
 use Rattle.machine.specs.Step.{Input, command, event, step}
 use Rattle.machine.specs.Fresh.{freshState, bondless}
 
@@ -71,12 +71,13 @@ supplied drawn =
       passkey = drawn;
       dhvalid = true;
       dhkey = zeros 32;
-      f4 = zeros 16;
+      ownconfirm = zeros 16;
+      peerconfirm = zeros 16;
       g2 = 0;
       mackey = zeros 16;
       ltk = zeros 16;
-      ea = zeros 16;
-      eb = zeros 16;
+      peercheck = zeros 16;
+      owncheck = zeros 16;
     }
 
 -- what a sample comes to
@@ -106,10 +107,10 @@ box =
       oob = NotPresent;
       bonding = true;
       passkey = C.Nothing;
-      pkbx = zeros 32;
-      pkby = zeros 32;
+      keyx = zeros 32;
+      keyy = zeros 32;
       irk = replicate 16 1;
-      local = nowhere;
+      own = nowhere;
       identity = nowhere;
       peer = nowhere;
       known = bondless;
@@ -152,7 +153,7 @@ confirm = 0x11 ∷ 0x00 ∷ 0x06 ∷ 0x00 ∷ 0x03 ∷ replicate 16 0
 
 -- a passkey typed at the box
 abbrev entered : ℕ → Sample
-entered p = call (standing (P.WaitingPassKeyInput false) typed) (event (I.PassKeyInput p) (record { local = zeros 16; random = zeros 16; confirm = zeros 16 })) 0 90
+entered p = call (standing (P.WaitingPassKeyInput false) typed) (event (I.PassKeyInput p) (record { ownrandom = zeros 16; peerrandom = zeros 16; peerconfirm = zeros 16 })) 0 90
 
 -- features of which the choice reads IO, OOB and MITM
 abbrev features : IoCapabilities → UseOutOfBand → Bool → PairingFeatures

@@ -17,10 +17,10 @@ pub data NoRandom : List ℕ → Type 0 where
 -- what a call of passkey entry sends: no Pairing Random; or our nonce, in a round whose confirm matches
 pub data Discloses (m : State) (c : Call) : List ℕ → Type 0 where
   hidden : {f : List ℕ} → NoRandom f → Discloses m c f
-  inRound : {r : ℕ} {w : List ℕ} → m .phase ≡ P.WaitingPassKeyEntryRandom r → Matching (m .secrets .ca) w c → Discloses m c (pairingRandom (m .secrets .nb))
+  inRound : {r : ℕ} {w : List ℕ} → m .phase ≡ P.WaitingPassKeyEntryRandom r → Matching (m .secrets .confirm) w c → Discloses m c (pairingRandom (m .secrets .ownnonce))
 
 -- what a call of any method sends
 pub data Sends (m : State) (c : Call) : List ℕ → Type 0 where
   passkey : {f : List ℕ} → Discloses m c f → Sends m c f
-  comparison : {w : List ℕ} → m .phase ≡ P.WaitingNumericComparisonRandom → Command 0x04 16 w c → Sends m c (pairingRandom (m .secrets .nb))
+  comparison : {w : List ℕ} → m .phase ≡ P.WaitingNumericComparisonRandom → Command 0x04 16 w c → Sends m c (pairingRandom (m .secrets .ownnonce))
   outOfBand : {w : List ℕ} → m .phase ≡ P.WaitingOobRandom → Command 0x04 16 w c → Sends m c (pairingRandom (c .supplied .nonce))

@@ -7,18 +7,18 @@ use lib.Dec.{eqb, ltb}
 use Rattle.rounds.specs.Rounds.{inRange}
 use Rattle.method.specs.declared.SecurityLevel.{SecurityLevel}
 use Rattle.method.specs.declared.SecurityLevel.the-variants.{NoEncryption}
-use Rattle.machine.specs.declared.Failure.{Failure}
-use Rattle.machine.specs.declared.Refusal.{Refusal}
+use Rattle.protocol.specs.declared.Failure.{Failure}
+use Rattle.protocol.specs.declared.Refusal.{Refusal}
+use Rattle.protocol.specs.declared.Event.{Event}
+use Rattle.protocol.specs.declared.OobData.{OobData}
+use Rattle.protocol.specs.declared.Supplied.{Supplied}
+use Rattle.protocol.specs.declared.Failure.the-variants as F
+use Rattle.protocol.specs.declared.Refusal.the-variants as R
+use Rattle.protocol.specs.declared.Event.the-variants as I
+use Rattle.protocol.specs.declared.ConnectionEvent.the-variants as E
 use Rattle.machine.specs.declared.Phase.{Phase}
-use Rattle.machine.specs.declared.Event.{Event}
-use Rattle.machine.specs.declared.OobData.{OobData}
 use Rattle.machine.specs.declared.State.{State}
-use Rattle.machine.specs.declared.Supplied.{Supplied}
-use Rattle.machine.specs.declared.Failure.the-variants as F
-use Rattle.machine.specs.declared.Refusal.the-variants as R
 use Rattle.machine.specs.declared.Phase.the-variants as P
-use Rattle.machine.specs.declared.Event.the-variants as I
-use Rattle.machine.specs.declared.ConnectionEvent.the-variants as E
 use Rattle.machine.specs.Outcome.{Outcome, at, refused, failing, unlisted, finishedPhase}
 use Rattle.machine.specs.Request.{requestOf}
 use Rattle.machine.specs.Exchange.{keyOf}

@@ -2,9 +2,9 @@
 use Prim.Native.Nat.{ℕ, zero, suc, _+_}
 use mathlib.Core.List.{List, [], _∷_, _++_, map}
 use mathlib.Core.Bool.{cond}
+use Rattle.protocol.specs.declared.Question.{Question}
 use Rattle.machine.specs.declared.Phase.{Phase}
 use Rattle.machine.specs.declared.Phase.the-variants as P
-use Rattle.machine.specs.declared.Question.{Question}
 use Rattle.machine.specs.declared.State.{State}
 use Rattle.machine.specs.Step.{Call, step}
 use Rattle.machine.specs.Questions.{questions}

@@ -12,13 +12,13 @@ use Rattle.features.specs.declared.UseOutOfBand.the-variants.{NotPresent, Prese
 use Rattle.method.specs.declared.PairingMethod.{PairingMethod}
 use Rattle.method.specs.declared.PairingMethod.the-variants.{JustWorks, NumericComparison, PassKeyEntry, OutOfBand}
 use Rattle.method.specs.declared.PassKeyEntryAction.the-variants as W
-use Rattle.machine.specs.declared.Configured.the-variants as C
-use Rattle.machine.specs.declared.Event.{Event}
-use Rattle.machine.specs.declared.Event.the-variants as I
+use Rattle.protocol.specs.declared.Configured.the-variants as C
+use Rattle.protocol.specs.declared.Event.{Event}
+use Rattle.protocol.specs.declared.Event.the-variants as I
+use Rattle.protocol.specs.declared.Setup.{Setup}
+use Rattle.protocol.specs.declared.Supplied.{Supplied}
 use Rattle.machine.specs.declared.Phase.{Phase}
 use Rattle.machine.specs.declared.Phase.the-variants as P
-use Rattle.machine.specs.declared.Setup.{Setup}
-use Rattle.machine.specs.declared.Supplied.{Supplied}
 use Rattle.machine.specs.Outcome.{noBond, finishedPhase}
 use Rattle.machine.specs.Step.{Call, command, event}
 use Rattle.machine.specs.Fresh.{freshState}
@@ -32,10 +32,10 @@ box io oob =
       oob = oob;
       bonding = true;
       passkey = C.Nothing;
-      pkbx = zeros 32;
-      pkby = zeros 32;
+      keyx = zeros 32;
+      keyy = zeros 32;
       irk = zeros 16;
-      local = record { kind = Public; octets = zeros 6 };
+      own = record { kind = Public; octets = zeros 6 };
       identity = record { kind = Public; octets = zeros 6 };
       peer = record { kind = Public; octets = zeros 6 };
       known = record { there = false; bond = noBond };
@@ -48,16 +48,28 @@ sixteen = 0 ∷ 1 ∷ 2 ∷ 3 ∷ 4 ∷ 5 ∷ 6 ∷ 7 ∷ 8 ∷ 9 ∷ 10 ∷ 11 
 abbrev pub turned : List ℕ
 turned = 15 ∷ 14 ∷ 13 ∷ 12 ∷ 11 ∷ 10 ∷ 9 ∷ 8 ∷ 7 ∷ 6 ∷ 5 ∷ 4 ∷ 3 ∷ 2 ∷ 1 ∷ 0 ∷ []
 
--- what is supplied, with f4
+-- what is supplied, with what the peer's confirm must be
 abbrev pub given : List ℕ → Supplied
-given f4 =
-    record { nonce = turned; passkey = 999999; dhvalid = true; dhkey = zeros 32; f4 = f4; g2 = 0; mackey = zeros 16; ltk = turned; ea = turned; eb = zeros 16 }
+given confirm =
+    record {
+      nonce = turned;
+      passkey = 999999;
+      dhvalid = true;
+      dhkey = zeros 32;
+      ownconfirm = zeros 16;
+      peerconfirm = confirm;
+      g2 = 0;
+      mackey = zeros 16;
+      ltk = turned;
+      peercheck = turned;
+      owncheck = zeros 16;
+    }
 
 abbrev pub tell : ℕ → List ℕ → Call
 tell k w = record { input = command (k ∷ w); supplied = given turned; room = 90 }
 
 abbrev pub raise : Event → Call
-raise e = record { input = event e (record { local = zeros 16; random = zeros 16; confirm = zeros 16 }); supplied = given turned; room = 90 }
+raise e = record { input = event e (record { ownrandom = zeros 16; peerrandom = zeros 16; peerconfirm = zeros 16 }); supplied = given turned; room = 90 }
 
 -- a request of a peer with a keyboard and a display that asks MITM, with its initiator key bits
 abbrev pub asking : ℕ → Call
@@ -112,7 +124,7 @@ bareRun = asking 0 ∷ key ∷ tell 0x04 sixteen ∷ tell 0x0D sixteen ∷ raise
 unfoldable pub bondedRun : List Call
 bondedRun = raise (I.LinkEncryptedResult true) ∷ []
 
--- a random of round 0 with a wrong f4
+-- a random of round 0 with another peerconfirm than the confirm that came
 unfoldable pub wrongRun : List Call
 wrongRun = asking 2 ∷ key ∷ tell 0x03 sixteen ∷ record { input = command (0x04 ∷ sixteen); supplied = given sixteen; room = 90 } ∷ []
 

@@ -4,16 +4,16 @@ use Prim.Native.Char.{code}
 use Prim.Native.String.{String, count, [] as none, _∷_ as _then_}
 use mathlib.Core.List.{List, [], _∷_, _++_}
 use lib.ListN.{replicate}
-use Rattle.machine.specs.declared.ConnectionEvent.{ConnectionEvent}
-use Rattle.machine.specs.declared.ConnectionEvent.the-variants as E
-use Rattle.machine.specs.declared.Failure.{Failure}
-use Rattle.machine.specs.declared.Failure.the-variants as F
+use Rattle.protocol.specs.declared.ConnectionEvent.{ConnectionEvent}
+use Rattle.protocol.specs.declared.ConnectionEvent.the-variants as E
+use Rattle.protocol.specs.declared.Failure.{Failure}
+use Rattle.protocol.specs.declared.Failure.the-variants as F
+use Rattle.protocol.specs.declared.QuestionKind.{QuestionKind}
+use Rattle.protocol.specs.declared.QuestionKind.the-variants as Q
+use Rattle.protocol.specs.declared.Refusal.{Refusal}
+use Rattle.protocol.specs.declared.Refusal.the-variants as R
 use Rattle.machine.specs.declared.Phase.{Phase}
 use Rattle.machine.specs.declared.Phase.the-variants as P
-use Rattle.machine.specs.declared.QuestionKind.{QuestionKind}
-use Rattle.machine.specs.declared.QuestionKind.the-variants as Q
-use Rattle.machine.specs.declared.Refusal.{Refusal}
-use Rattle.machine.specs.declared.Refusal.the-variants as R
 use Rattle.method.specs.declared.PairingMethod.{PairingMethod}
 use Rattle.method.specs.declared.PairingMethod.the-variants as M
 use Rattle.method.specs.declared.PassKeyEntryAction.{PassKeyEntryAction}

@@ -2,14 +2,14 @@
 // constants is proved in a third of the time of one among words in the code.
 mod words;
 
-use machine::ConnectionEvent;
-use machine::Failure;
 use machine::Phase;
-use machine::QuestionKind;
-use machine::Refusal;
 use method::PairingMethod;
 use method::PassKeyEntryAction;
 use method::SecurityLevel;
+use protocol::ConnectionEvent;
+use protocol::Failure;
+use protocol::QuestionKind;
+use protocol::Refusal;
 ghost use mathlib.Core.Path.{_≡_};
 ghost use Rattle.names.specs.Names.{padded, failureName, refusalName, levelName, entryName, methodName, stateName, eventName, questionName};
 

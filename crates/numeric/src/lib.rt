@@ -1,12 +1,12 @@
 // Numeric comparison and Just Works (Part H 2.3.5.6.2): the steps of WaitingNumericComparisonRandom and WaitingNumericComparisonResult.
-use machine::ConnectionEvent;
-use machine::Event;
-use machine::Failure;
 use machine::Phase;
 use machine::State;
 use machine::Step;
-use machine::Supplied;
 use method::PairingMethod;
+use protocol::ConnectionEvent;
+use protocol::Event;
+use protocol::Failure;
+use protocol::Supplied;
 ghost use Rattle.machine.specs.Outcome.{Met};
 ghost use Rattle.machine.specs.Numeric.{compares, comparisonRandomOf, confirmedOf, comparisonEvent};
 

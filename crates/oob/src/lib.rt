@@ -1,14 +1,14 @@
 // Out-of-band pairing (Part H 2.3.5.6.4): the steps of WaitingOobData and WaitingOobRandom.
 use features::UseOutOfBand;
-use machine::ConnectionEvent;
-use machine::Event;
-use machine::Failure;
-use machine::OobData;
 use machine::Phase;
-use machine::Secrets;
 use machine::State;
 use machine::Step;
-use machine::Supplied;
+use protocol::ConnectionEvent;
+use protocol::Event;
+use protocol::Failure;
+use protocol::OobData;
+use protocol::Secrets;
+use protocol::Supplied;
 ghost use mathlib.Core.Path.{_≡_};
 ghost use mathlib.Core.Bool.{cond};
 ghost use Rattle.octets.specs.Octets.{zeros};

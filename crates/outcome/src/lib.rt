@@ -1,15 +1,15 @@
 // How a step ends: refused, failed, gone on or succeeded. Frames are in the outbox by then; `sent` counts their octets.
-use machine::Action;
-use machine::ActionKind;
-use machine::Answer;
-use machine::ConnectionEvent;
-use machine::Failure;
-use machine::MaybeBond;
 use machine::Phase;
-use machine::Refusal;
-use machine::Secrets;
 use machine::State;
 use machine::Step;
+use protocol::Action;
+use protocol::ActionKind;
+use protocol::Answer;
+use protocol::ConnectionEvent;
+use protocol::Failure;
+use protocol::MaybeBond;
+use protocol::Refusal;
+use protocol::Secrets;
 ghost use mathlib.Core.Path.{_≡_};
 ghost use mathlib.Core.List.{[]};
 ghost use Rattle.machine.specs.Outcome.{said, to, refused, failing, goes, succeeds, completing, storing, wantsBonding};

@@ -6,11 +6,11 @@ use mathlib.Core.List.{List, [], _∷_}
 use mathlib.Core.Bool.{Bool}
 use types.Run.{OneOf, miss}
 use denote.Enum.Declared.{tagOf}
+use Rattle.protocol.specs.declared.Supplied.{Supplied}
+use Rattle.protocol.specs.declared.Event.{Event}
+use Rattle.protocol.specs.declared.Event.the-variants as I
+use Rattle.protocol.proofs.Event.{the-type}
 use Rattle.machine.specs.declared.State.{State}
-use Rattle.machine.specs.declared.Supplied.{Supplied}
-use Rattle.machine.specs.declared.Event.{Event}
-use Rattle.machine.specs.declared.Event.the-variants as I
-use Rattle.machine.proofs.Event.{the-type}
 use Rattle.machine.specs.Outcome.{unlisted}
 use Rattle.machine.specs.Passkey.{typingEvent}
 

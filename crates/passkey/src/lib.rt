@@ -1,12 +1,12 @@
 // Passkey entry (Part H 2.3.5.6.3): the steps of WaitingPassKeyInput, WaitingPassKeyEntryConfirm and WaitingPassKeyEntryRandom.
-use machine::ConnectionEvent;
-use machine::Event;
-use machine::Failure;
 use machine::Phase;
-use machine::Secrets;
 use machine::State;
 use machine::Step;
-use machine::Supplied;
+use protocol::ConnectionEvent;
+use protocol::Event;
+use protocol::Failure;
+use protocol::Secrets;
+use protocol::Supplied;
 use rounds::Following;
 ghost use mathlib.Core.Path.{_≡_};
 ghost use Rattle.rounds.specs.Rounds.{afterOf};

@@ -1,9 +1,9 @@
 // What is to be known of a pairing from outside.
 use address::Address;
-use machine::Failure;
-use machine::MaybeBond;
 use machine::Phase;
 use method::SecurityLevel;
+use protocol::Failure;
+use protocol::MaybeBond;
 use responder::Responder;
 ghost use mathlib.Core.Path.{_≡_};
 ghost use Rattle.machine.specs.Step.{encrypted, securityLevel};

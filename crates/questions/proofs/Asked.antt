@@ -2,8 +2,8 @@
 use mathlib.Core.Path.{_≡_}
 use mathlib.Core.List.{List, [], _∷_}
 use mathlib.Core.Bool.{Bool, true, cond}
-use Rattle.machine.specs.declared.Given.{Given}
-use Rattle.machine.specs.declared.Question.{Question}
+use Rattle.protocol.specs.declared.Given.{Given}
+use Rattle.protocol.specs.declared.Question.{Question}
 use Rattle.machine.specs.Questions.{answered, nextOf}
 
 pub behind : (g : Given) (q : Question) (b : Bool) (qs : List Question) (r : Question) → answered g (q .kind) ≡ true → b ≡ true → r ≡ nextOf g qs

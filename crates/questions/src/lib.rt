@@ -2,15 +2,15 @@
 // its arguments, or none. It changes nothing and takes no outbox.
 use address::Address;
 use address::AddressKind;
-use machine::Event;
-use machine::Given;
-use machine::OobData;
 use machine::Phase;
-use machine::Question;
-use machine::QuestionKind;
 use machine::State;
-use machine::Supplied;
 use method::PairingMethod;
+use protocol::Event;
+use protocol::Given;
+use protocol::OobData;
+use protocol::Question;
+use protocol::QuestionKind;
+use protocol::Supplied;
 ghost use mathlib.Core.Path.{_≡_};
 ghost use mathlib.Core.Bool.{cond};
 ghost use Rattle.machine.specs.Step.{command, event, ranged};

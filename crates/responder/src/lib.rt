@@ -1,17 +1,17 @@
 // The Secure Connections responder. Its state goes by value: each method takes it with one input and hands back the state after it,
 // with what stands in the outbox, the user's events, the action and the answer.
-use machine::Action;
-use machine::Answer;
-use machine::ConnectionEvent;
-use machine::Event;
-use machine::Failure;
-use machine::Given;
-use machine::OobData;
 use machine::Phase;
-use machine::Question;
 use machine::State;
 use machine::Step;
-use machine::Supplied;
+use protocol::Action;
+use protocol::Answer;
+use protocol::ConnectionEvent;
+use protocol::Event;
+use protocol::Failure;
+use protocol::Given;
+use protocol::OobData;
+use protocol::Question;
+use protocol::Supplied;
 ghost use mathlib.Core.Path.{_≡_};
 ghost use lib.ListN.{length};
 ghost use Rattle.machine.specs.Step.{command, event, step, timedOut};

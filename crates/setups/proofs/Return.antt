@@ -16,8 +16,8 @@ use Rattle.features.specs.Features.{ioNumber, oobNumber}
 use Rattle.features.proofs.Features.{io-back, io-small, io-number, oob-back, oob-small, oob-number}
 use Rattle.method.specs.declared.SecurityLevel.{SecurityLevel}
 use Rattle.method.specs.declared.SecurityLevel.the-variants.{NoEncryption, Encrypted, EncryptedAuthenticated}
-use Rattle.machine.specs.declared.Configured.{Configured}
-use Rattle.machine.specs.declared.Configured.the-variants.{Nothing, Passkey}
+use Rattle.protocol.specs.declared.Configured.{Configured}
+use Rattle.protocol.specs.declared.Configured.the-variants.{Nothing, Passkey}
 use Rattle.fields.specs.Fields.{little, number, numberAt, field, flagNumber, one, join}
 use Rattle.fields.proofs.Cut.{cutAt, lengths, total, row-eq, cut-join, join-cut, length-join, field-there, byte-of, byte-row, cons-row, number-two, number-four, Below, number-row, test-none, test-first, test-at}
 use Rattle.fields.proofs.Flags.{flag-back, flag-small, flag-number}

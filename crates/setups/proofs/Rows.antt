@@ -2,8 +2,8 @@
 use mathlib.Core.Path.{_≡_}
 use mathlib.Core.List.{List, _∷_, _++_, append-assoc}
 use Prim.Native.Nat.{ℕ}
-use Rattle.machine.specs.declared.MaybeBond.{MaybeBond}
-use Rattle.machine.specs.declared.Setup.{Setup}
+use Rattle.protocol.specs.declared.MaybeBond.{MaybeBond}
+use Rattle.protocol.specs.declared.Setup.{Setup}
 use Rattle.fields.specs.Fields.{flagNumber, one, join}
 use Rattle.fields.proofs.Parts.{five}
 use Rattle.setups.specs.Setup.{addressOctets, levelNumber, bondRows, boxRows}

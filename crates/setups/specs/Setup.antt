@@ -11,10 +11,10 @@ use Rattle.address.specs.Identity.{kindNumber}
 use Rattle.features.specs.Features.{ioNumber, ioOf, oobNumber, oobOf}
 use Rattle.method.specs.declared.SecurityLevel.{SecurityLevel}
 use Rattle.method.specs.declared.SecurityLevel.the-variants.{NoEncryption, Encrypted, EncryptedAuthenticated}
-use Rattle.machine.specs.declared.Configured.{Configured}
-use Rattle.machine.specs.declared.Configured.the-variants.{Nothing, Passkey}
-use Rattle.machine.specs.declared.MaybeBond.{MaybeBond}
-use Rattle.machine.specs.declared.Setup.{Setup}
+use Rattle.protocol.specs.declared.Configured.{Configured}
+use Rattle.protocol.specs.declared.Configured.the-variants.{Nothing, Passkey}
+use Rattle.protocol.specs.declared.MaybeBond.{MaybeBond}
+use Rattle.protocol.specs.declared.Setup.{Setup}
 use Rattle.setups.specs.declared.StartKind.{StartKind}
 use Rattle.setups.specs.declared.StartKind.the-variants.{Plain, ByUser, NotByUser}
 use Rattle.setups.specs.declared.SetupCall.{SetupCall}

@@ -2,11 +2,11 @@
 // payload can carry.
 use address::Address;
 use address::AddressKind;
-use machine::Bond;
-use machine::Configured;
-use machine::MaybeBond;
-use machine::Setup;
 use method::SecurityLevel;
+use protocol::Bond;
+use protocol::Configured;
+use protocol::MaybeBond;
+use protocol::Setup;
 ghost use mathlib.Core.Path.{_≡_};
 ghost use mathlib.Core.List.{_++_};
 ghost use Prim.Native.Nat.{_≤_, _<_};

@@ -2,15 +2,15 @@
 // machine is finished, and whether an event's passkey is in range.
 use address::Address;
 use address::AddressKind;
-use machine::Action;
-use machine::ActionKind;
-use machine::Bond;
-use machine::Event;
-use machine::OobData;
 use machine::Phase;
-use machine::Secrets;
 use machine::State;
 use method::SecurityLevel;
+use protocol::Action;
+use protocol::ActionKind;
+use protocol::Bond;
+use protocol::Event;
+use protocol::OobData;
+use protocol::Secrets;
 ghost use mathlib.Core.Path.{_≡_};
 ghost use Rattle.machine.specs.Outcome.{at, noBond, noAction, finishedPhase};
 ghost use Rattle.machine.specs.Secrets.{fresh, setPasskey};

@@ -6,7 +6,7 @@ use crate::standing::standing;
 use crate::text::Line;
 use crate::text::empty;
 use crate::text::least;
-use machine::Question;
+use protocol::Question;
 use responder::Stepped;
 use wrapper::Begun;
 use wrapper::Start;

@@ -1,14 +1,14 @@
 // The parts of a line that say what a call gave back: answer, frames, events, action and question.
 use crate::text::Line;
 use address::Address;
-use machine::Action;
-use machine::ActionKind;
-use machine::Answer;
-use machine::Bond;
-use machine::ConnectionEvent;
-use machine::Question;
-use machine::QuestionKind;
 use method::SecurityLevel;
+use protocol::Action;
+use protocol::ActionKind;
+use protocol::Answer;
+use protocol::Bond;
+use protocol::ConnectionEvent;
+use protocol::Question;
+use protocol::QuestionKind;
 ghost use mathlib.Core.Path.{_≡_};
 ghost use Rattle.walk.specs.Frames.{frameEnd};
 

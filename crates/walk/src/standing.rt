@@ -2,10 +2,10 @@
 use crate::parts;
 use crate::text::Line;
 use address::Address;
-use machine::MaybeBond;
 use machine::Phase;
 use method::PairingMethod;
 use method::SecurityLevel;
+use protocol::MaybeBond;
 use responder::Responder;
 
 // What a line shows of a machine.

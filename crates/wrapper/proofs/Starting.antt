@@ -8,9 +8,9 @@ use borrow.Author.Tests.{lt-ltb, le-ltb}
 use Rattle.octets.specs.Write.{Wrote}
 use Rattle.features.specs.Bits.{ourAuthReq}
 use Rattle.frames.specs.Frames.{securityRequest}
-use Rattle.machine.specs.declared.Refusal.{Refusal}
-use Rattle.machine.specs.declared.Refusal.the-variants as R
-use Rattle.machine.specs.declared.Setup.{Setup}
+use Rattle.protocol.specs.declared.Refusal.{Refusal}
+use Rattle.protocol.specs.declared.Refusal.the-variants as R
+use Rattle.protocol.specs.declared.Setup.{Setup}
 use Rattle.machine.proofs.Outcome.{nothing}
 use Rattle.wrapper.specs.declared.Begun.{Begun}
 use Rattle.wrapper.specs.declared.Start.{Start}

@@ -10,13 +10,13 @@ use Rattle.features.specs.Bits.{ourAuthReq}
 use Rattle.method.specs.declared.SecurityLevel.{SecurityLevel}
 use Rattle.method.specs.declared.SecurityLevel.the-variants.{NoEncryption, Encrypted, EncryptedAuthenticated}
 use Rattle.frames.specs.Frames.{securityRequest}
-use Rattle.machine.specs.declared.Refusal.{Refusal}
-use Rattle.machine.specs.declared.Refusal.the-variants as R
-use Rattle.machine.specs.declared.Failure.the-variants as F
+use Rattle.protocol.specs.declared.Refusal.{Refusal}
+use Rattle.protocol.specs.declared.Refusal.the-variants as R
+use Rattle.protocol.specs.declared.Failure.the-variants as F
+use Rattle.protocol.specs.declared.Configured.{Configured}
+use Rattle.protocol.specs.declared.Configured.the-variants as C
+use Rattle.protocol.specs.declared.Setup.{Setup}
 use Rattle.machine.specs.declared.Phase.the-variants as P
-use Rattle.machine.specs.declared.Configured.{Configured}
-use Rattle.machine.specs.declared.Configured.the-variants as C
-use Rattle.machine.specs.declared.Setup.{Setup}
 use Rattle.machine.specs.declared.State.{State}
 use Rattle.machine.specs.Outcome.{at}
 use Rattle.machine.specs.Request.{interactive}

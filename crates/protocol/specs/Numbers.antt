@@ -1,9 +1,9 @@
 -- The scope's numbers: what is given back where a pairing fails or a call is refused.
 use Prim.Native.Nat.{ℕ}
-use Rattle.machine.specs.declared.Failure.{Failure}
-use Rattle.machine.specs.declared.Failure.the-variants as F
-use Rattle.machine.specs.declared.Refusal.{Refusal}
-use Rattle.machine.specs.declared.Refusal.the-variants as R
+use Rattle.protocol.specs.declared.Failure.{Failure}
+use Rattle.protocol.specs.declared.Failure.the-variants as F
+use Rattle.protocol.specs.declared.Refusal.{Refusal}
+use Rattle.protocol.specs.declared.Refusal.the-variants as R
 
 -- from 33 on: 32 plus the reason of Part H 3.5.5
 abbrev pub failureNumber : Failure → ℕ

@@ -1,0 +1,2 @@
+-- The definitions of `protocol`, file by file.
+pub mod Numbers
