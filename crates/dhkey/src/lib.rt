@@ -28,14 +28,14 @@ pub fn check(state: State, code: u8, payload: &[u8], supplied: Supplied, out: &m
 }
 
 // The peer's check against the right one. Ours goes out, and the link is to be encrypted with the link key that came of the exchange.
-pub fn check_value(state: State, ea: [u8; 16], supplied: Supplied, out: &mut [u8]) -> Step
-    ensures { λ r. ⌜ Met (checking state ea supplied) r (now (out .entry)) (now (out .exit)) ⌝ }
+pub fn check_value(state: State, value: [u8; 16], supplied: Supplied, out: &mut [u8]) -> Step
+    ensures { λ r. ⌜ Met (checking state value supplied) r (now (out .entry)) (now (out .exit)) ⌝ }
 {
-    let right = supplied.ea;
-    if octets::equal16(ea, right) {
-        let eb = supplied.eb;
+    let right = supplied.peercheck;
+    if octets::equal16(value, right) {
+        let own_check = supplied.owncheck;
         let ltk = supplied.ltk;
-        let sent = frames::dhkey_check(out, eb);
+        let sent = frames::dhkey_check(out, own_check);
         let bond = new_bond(state, ltk);
         let mut next = states::at(state, Phase::WaitingLinkEncrypted);
         let kept = MaybeBond { there: true, bond };

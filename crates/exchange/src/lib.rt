@@ -110,13 +110,13 @@ fn compare(state: State, secrets: Secrets, supplied: Supplied, out: &mut [u8]) -
     ensures { λ r. ⌜ Met (comparing state secrets supplied) r (now (out .entry)) (now (out .exit)) ⌝ }
 {
     let setup = state.setup;
-    let x = setup.pkbx;
-    let y = setup.pkby;
-    let f4 = supplied.f4;
-    let nb = supplied.nonce;
-    let sent = frames::public_key_confirm(out, x, y, f4);
+    let x = setup.keyx;
+    let y = setup.keyy;
+    let confirm = supplied.ownconfirm;
+    let nonce = supplied.nonce;
+    let sent = frames::public_key_confirm(out, x, y, confirm);
     let mut drawn = secrets;
-    drawn.nb = nb;
+    drawn.ownnonce = nonce;
     outcome::goes(
         state,
         Phase::WaitingNumericComparisonRandom,
@@ -165,8 +165,8 @@ fn send_key(
     ensures { λ r. ⌜ Met (goes (to state phase secrets) (ourKey state) event) r (now (out .entry)) (now (out .exit)) ⌝ }
 {
     let setup = state.setup;
-    let x = setup.pkbx;
-    let y = setup.pkby;
+    let x = setup.keyx;
+    let y = setup.keyy;
     let sent = frames::public_key(out, x, y);
     outcome::goes(state, phase, secrets, sent, event)
 }

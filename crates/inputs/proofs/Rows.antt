@@ -15,20 +15,21 @@ pub drawn-rows : (c : Call)
 drawn-rows c =
     five (little 2 (c .outbox)) (one (givenNumber (c .given))) (c .supplied .nonce) (little 4 (c .supplied .passkey)) (one (flagNumber (c .supplied .dhvalid)))
 
-three-between : (rs : List (List ℕ)) (a b c : List ℕ) (ts : List (List ℕ)) → join rs ++ a ++ b ++ c ++ join ts ≡ join (rs ++ (a ∷ b ∷ c ∷ ts))
+four-between : (rs : List (List ℕ)) (a b c d : List ℕ) (ts : List (List ℕ)) → join rs ++ a ++ b ++ c ++ d ++ join ts ≡ join (rs ++ (a ∷ b ∷ c ∷ d ∷ ts))
 unfolding join
-three-between rs a b c ts = rw (← join-append rs (a ∷ b ∷ c ∷ ts)) (simp append-assoc)
+four-between rs a b c d ts = rw (← join-append rs (a ∷ b ∷ c ∷ d ∷ ts)) (simp append-assoc)
 
 pub call-rows : (c : Call)
-    → join (take 5 (callRows c)) ++ c .supplied .dhkey ++ c .supplied .f4 ++ little 4 (c .supplied .g2) ++ join (drop 8 (callRows c)) ≡ join (callRows c)
-call-rows c = three-between (take 5 (callRows c)) (c .supplied .dhkey) (c .supplied .f4) (little 4 (c .supplied .g2)) (drop 8 (callRows c))
+    → join (take 5 (callRows c)) ++ c .supplied .dhkey ++ c .supplied .ownconfirm ++ c .supplied .peerconfirm ++ little 4 (c .supplied .g2) ++ join (drop 9 (callRows c))
+    ≡ join (callRows c)
+call-rows c = four-between (take 5 (callRows c)) (c .supplied .dhkey) (c .supplied .ownconfirm) (c .supplied .peerconfirm) (little 4 (c .supplied .g2)) (drop 9 (callRows c))
 
 after-four : (l a b c d e : List ℕ) → l ++ (a ++ b) ++ c ++ d ++ e ≡ l ++ join (a ∷ b ∷ c ∷ d ∷ e ∷ [])
 unfolding join
 after-four l a b c d e = simp (append-assoc, append-nil)
 
 pub event-rows : (c : EventCall)
-    → join (callRows (c .call)) ++ (eventNumber (c .came) ∷ little 4 (eventValue (c .came))) ++ c .values .local ++ c .values .random ++ c .values .confirm
+    → join (callRows (c .call)) ++ (eventNumber (c .came) ∷ little 4 (eventValue (c .came))) ++ c .values .ownrandom ++ c .values .peerrandom ++ c .values .peerconfirm
     ≡ join (callRows (c .call)) ++ join (eventRows c)
 event-rows c =
-    after-four (join (callRows (c .call))) (one (eventNumber (c .came))) (little 4 (eventValue (c .came))) (c .values .local) (c .values .random) (c .values .confirm)
+    after-four (join (callRows (c .call))) (one (eventNumber (c .came))) (little 4 (eventValue (c .came))) (c .values .ownrandom) (c .values .peerrandom) (c .values .peerconfirm)

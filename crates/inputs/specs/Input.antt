@@ -1,5 +1,5 @@
 -- The payloads of commands and events, rows and offsets as in docs/CALLS.md. Both begin with the outbox's length and the supplied values,
--- 140 bytes. The supplied values' offsets are two more than in their own table.
+-- 156 bytes. The supplied values' offsets are two more than in their own table.
 use Prim.Native.Nat.{ℕ, _+_, _*_, _/_, _%_}
 use mathlib.Core.List.{List, [], _∷_, _++_}
 use mathlib.Core.Bool.{Bool, true, false, cond}
@@ -19,24 +19,26 @@ use Rattle.fields.specs.Fields.{little, numberAt, field, flagNumber, flagAt, on
 abbrev pub givenNumber : Given → ℕ
 givenNumber g =
     flagNumber (g .dh)
-    + 2 * flagNumber (g .f4)
-    + 4 * flagNumber (g .g2)
-    + 8 * flagNumber (g .f5)
-    + 16 * flagNumber (g .ea)
-    + 32 * flagNumber (g .eb)
+    + 2 * flagNumber (g .ownconfirm)
+    + 4 * flagNumber (g .peerconfirm)
+    + 8 * flagNumber (g .g2)
+    + 16 * flagNumber (g .f5)
+    + 32 * flagNumber (g .peercheck)
+    + 64 * flagNumber (g .owncheck)
 
 abbrev pub givenOf : ℕ → Given
 givenOf n =
     record {
       dh = eqb (n % 2) 1;
-      f4 = eqb (n / 2 % 2) 1;
-      g2 = eqb (n / 4 % 2) 1;
-      f5 = eqb (n / 8 % 2) 1;
-      ea = eqb (n / 16 % 2) 1;
-      eb = eqb (n / 32 % 2) 1;
+      ownconfirm = eqb (n / 2 % 2) 1;
+      peerconfirm = eqb (n / 4 % 2) 1;
+      g2 = eqb (n / 8 % 2) 1;
+      f5 = eqb (n / 16 % 2) 1;
+      peercheck = eqb (n / 32 % 2) 1;
+      owncheck = eqb (n / 64 % 2) 1;
     }
 
--- the rows of the first 140 bytes, with their offsets
+-- the rows of the first 156 bytes, with their offsets
 abbrev pub callRows : Call → List (List ℕ)
 callRows c =
     little 2 (c .outbox)  -- 0
@@ -45,12 +47,13 @@ callRows c =
     ∷ little 4 (c .supplied .passkey)  -- 19
     ∷ one (flagNumber (c .supplied .dhvalid))  -- 23
     ∷ c .supplied .dhkey  -- 24
-    ∷ c .supplied .f4  -- 56
-    ∷ little 4 (c .supplied .g2)  -- 72
-    ∷ c .supplied .mackey  -- 76
-    ∷ c .supplied .ltk  -- 92
-    ∷ c .supplied .ea  -- 108
-    ∷ c .supplied .eb  -- 124
+    ∷ c .supplied .ownconfirm  -- 56
+    ∷ c .supplied .peerconfirm  -- 72
+    ∷ little 4 (c .supplied .g2)  -- 88
+    ∷ c .supplied .mackey  -- 92
+    ∷ c .supplied .ltk  -- 108
+    ∷ c .supplied .peercheck  -- 124
+    ∷ c .supplied .owncheck  -- 140
     ∷ []
 
 -- what they say
@@ -61,12 +64,13 @@ suppliedAt l =
       passkey = numberAt 4 19 l;
       dhvalid = flagAt 23 l;
       dhkey = field 32 24 l;
-      f4 = field 16 56 l;
-      g2 = numberAt 4 72 l;
-      mackey = field 16 76 l;
-      ltk = field 16 92 l;
-      ea = field 16 108 l;
-      eb = field 16 124 l;
+      ownconfirm = field 16 56 l;
+      peerconfirm = field 16 72 l;
+      g2 = numberAt 4 88 l;
+      mackey = field 16 92 l;
+      ltk = field 16 108 l;
+      peercheck = field 16 124 l;
+      owncheck = field 16 140 l;
     }
 
 unfoldable pub callAt : List ℕ → Call
@@ -74,13 +78,13 @@ callAt l = record { outbox = numberAt 2 0 l; given = givenOf (getD l 2 0); suppl
 
 -- their length and ranges
 unfoldable pub callFits : List ℕ → Bool
-callFits l = every (leb 140 (length l) ∷ leb (numberAt 2 0 l) 512 ∷ atMost 2 63 l ∷ atMost 23 1 l ∷ [])
+callFits l = every (leb 156 (length l) ∷ leb (numberAt 2 0 l) 512 ∷ atMost 2 127 l ∷ atMost 23 1 l ∷ [])
 
 -- A command: the rows, and the command behind them
 
 -- the payload; none where the outbox's length is above 512 or the payload would be
 unfoldable pub commandOctets : Call → List ℕ → List ℕ
-commandOctets c cmd = cond (leb (c .outbox) 512) (cond (leb (length cmd) 372) (join (callRows c) ++ cmd) []) []
+commandOctets c cmd = cond (leb (c .outbox) 512) (cond (leb (length cmd) 356) (join (callRows c) ++ cmd) []) []
 
 unfoldable pub commandFits : List ℕ → Bool
 commandFits l = cond (leb (length l) 512) (callFits l) false
@@ -123,14 +127,14 @@ numberFits k n =
     (cond (eqb k 5) (eqb n 0)
     false))))
 
--- the rows behind the first 140 bytes, with their offsets
+-- the rows behind the first 156 bytes, with their offsets
 abbrev pub eventRows : EventCall → List (List ℕ)
 eventRows c =
-    one (eventNumber (c .came))  -- 140
-    ∷ little 4 (eventValue (c .came))  -- 141
-    ∷ c .values .local  -- 145
-    ∷ c .values .random  -- 161
-    ∷ c .values .confirm  -- 177
+    one (eventNumber (c .came))  -- 156
+    ∷ little 4 (eventValue (c .came))  -- 157
+    ∷ c .values .ownrandom  -- 161
+    ∷ c .values .peerrandom  -- 177
+    ∷ c .values .peerconfirm  -- 193
     ∷ []
 
 -- the payload; none where the outbox's length is above 512
@@ -141,12 +145,12 @@ unfoldable pub eventCall : List ℕ → EventCall
 eventCall l =
     record {
       call = callAt l;
-      came = eventOf (getD l 140 0) (numberAt 4 141 l);
-      values = record { local = field 16 145 l; random = field 16 161 l; confirm = field 16 177 l };
+      came = eventOf (getD l 156 0) (numberAt 4 157 l);
+      values = record { ownrandom = field 16 161 l; peerrandom = field 16 177 l; peerconfirm = field 16 193 l };
     }
 
 unfoldable pub eventFits : List ℕ → Bool
-eventFits l = cond (eqb (length l) 193) (cond (callFits l) (numberFits (getD l 140 0) (numberAt 4 141 l)) false) false
+eventFits l = cond (eqb (length l) 209) (cond (callFits l) (numberFits (getD l 156 0) (numberAt 4 157 l)) false) false
 
 -- a payload that doesn't fit gives what an empty one says: zeros
 unfoldable pub readEvent : List ℕ → ReadEvent

@@ -57,7 +57,7 @@ pub struct ReadEvent {
     pub call: EventCall,
 }
 
-// What comes before the command in a command's payload; the command is what stands from offset 140 on.
+// What comes before the command in a command's payload; the command is what stands from offset 156 on.
 pub fn read_command(payload: &[u8]) -> ReadCommand
     ensures { λ r. ⌜ r ≡ readCommand (now (payload .entry)) ⌝ }
 {
@@ -73,7 +73,7 @@ pub fn read_command(payload: &[u8]) -> ReadCommand
     }
 }
 
-// Writes a command's payload and answers its length. Where out is too short, the outbox's length above 512 or the command above 372
+// Writes a command's payload and answers its length. Where out is too short, the outbox's length above 512 or the command above 356
 // bytes: nothing, and 0.
 pub fn put_command(out: &mut [u8], call: Call, cmd: &[u8]) -> usize
     ensures { λ r. ⌜ Wrote (commandOctets call (now (cmd .entry))) (now (out .entry)) r (now (out .exit)) ⌝ }
@@ -82,17 +82,17 @@ pub fn put_command(out: &mut [u8], call: Call, cmd: &[u8]) -> usize
     if 512 < call.outbox {
         return 0;
     }
-    if 372 < n {
+    if 356 < n {
         return 0;
     }
-    let mut head = [0u8; 140];
+    let mut head = [0u8; 156];
     place_call(&mut head, call);
-    if out.len() < 140 + n {
+    if out.len() < 156 + n {
         return 0;
     }
     let _head = octets::put(out, &head);
-    let _cmd = octets::put(&mut out[140..], cmd);
-    140 + n
+    let _cmd = octets::put(&mut out[156..], cmd);
+    156 + n
 }
 
 // The event in a payload.
@@ -111,7 +111,7 @@ pub fn read_event(payload: &[u8]) -> ReadEvent
     }
 }
 
-// Writes an event's payload and answers 193. Where out is too short or the outbox's length above 512: nothing, and 0.
+// Writes an event's payload and answers 209. Where out is too short or the outbox's length above 512: nothing, and 0.
 pub fn put_event(out: &mut [u8], call: EventCall) -> usize
     ensures { λ r. ⌜ Wrote (eventOctets call) (now (out .entry)) r (now (out .exit)) ⌝ }
 {
@@ -119,7 +119,7 @@ pub fn put_event(out: &mut [u8], call: EventCall) -> usize
     if 512 < common.outbox {
         return 0;
     }
-    let mut payload = [0u8; 193];
+    let mut payload = [0u8; 209];
     place_event(&mut payload, call);
     octets::put(out, &payload)
 }
@@ -138,25 +138,25 @@ fn command_fits(p: &[u8]) -> bool
 fn event_fits(p: &[u8]) -> bool
     ensures { λ r. ⌜ r ≡ eventFits (now (p .entry)) ⌝ }
 {
-    if p.len() != 193 {
+    if p.len() != 209 {
         return false;
     }
     if call_fits(p) {
-        return number_fits(fields::byte(p, 140), fields::word(p, 141));
+        return number_fits(fields::byte(p, 156), fields::word(p, 157));
     }
     false
 }
 
-// Whether the first 140 bytes are there and in range.
+// Whether the first 156 bytes are there and in range.
 fn call_fits(p: &[u8]) -> bool
     ensures { λ r. ⌜ r ≡ callFits (now (p .entry)) ⌝ }
 {
-    let bytes = fields::within(p, 2, 63, fields::within(p, 23, 1, true));
+    let bytes = fields::within(p, 2, 127, fields::within(p, 23, 1, true));
     let outbox = fields::both(fields::half(p, 0) <= 512, bytes);
-    fields::both(140 <= p.len(), outbox)
+    fields::both(156 <= p.len(), outbox)
 }
 
-// What the first 140 bytes say.
+// What the first 156 bytes say.
 fn call_of(p: &[u8]) -> Call
     ensures { λ r. ⌜ r ≡ callAt (now (p .entry)) ⌝ }
 {
@@ -173,11 +173,12 @@ fn given_of(bits: u8) -> Given
 {
     Given {
         dh: bits % 2 == 1,
-        f4: bits / 2 % 2 == 1,
-        g2: bits / 4 % 2 == 1,
-        f5: bits / 8 % 2 == 1,
-        ea: bits / 16 % 2 == 1,
-        eb: bits / 32 % 2 == 1,
+        ownconfirm: bits / 2 % 2 == 1,
+        peerconfirm: bits / 4 % 2 == 1,
+        g2: bits / 8 % 2 == 1,
+        f5: bits / 16 % 2 == 1,
+        peercheck: bits / 32 % 2 == 1,
+        owncheck: bits / 64 % 2 == 1,
     }
 }
 
@@ -189,12 +190,13 @@ fn supplied_of(p: &[u8]) -> Supplied
         passkey: fields::word(p, 19),
         dhvalid: fields::byte(p, 23) == 1,
         dhkey: fields::thirty_two(p, 24),
-        f4: fields::sixteen(p, 56),
-        g2: fields::word(p, 72),
-        mackey: fields::sixteen(p, 76),
-        ltk: fields::sixteen(p, 92),
-        ea: fields::sixteen(p, 108),
-        eb: fields::sixteen(p, 124),
+        ownconfirm: fields::sixteen(p, 56),
+        peerconfirm: fields::sixteen(p, 72),
+        g2: fields::word(p, 88),
+        mackey: fields::sixteen(p, 92),
+        ltk: fields::sixteen(p, 108),
+        peercheck: fields::sixteen(p, 124),
+        owncheck: fields::sixteen(p, 140),
     }
 }
 
@@ -203,33 +205,35 @@ fn event_call(p: &[u8]) -> EventCall
 {
     EventCall {
         call: call_of(p),
-        came: event_of(fields::byte(p, 140), fields::word(p, 141)),
+        came: event_of(fields::byte(p, 156), fields::word(p, 157)),
         values: OobData {
-            local: fields::sixteen(p, 145),
-            random: fields::sixteen(p, 161),
-            confirm: fields::sixteen(p, 177),
+            ownrandom: fields::sixteen(p, 161),
+            peerrandom: fields::sixteen(p, 177),
+            peerconfirm: fields::sixteen(p, 193),
         },
     }
 }
 
-// The outbox's length and the supplied values: the first 140 bytes.
+// The outbox's length and the supplied values: the first 156 bytes.
 fn place_call(out: &mut [u8], call: Call)
-    requires { ⌜ 140 ≤ length (now out) ⌝ }
-    ensures { λ _. ⌜ Placed 140 0 (join (callRows call)) (now (out .entry)) (now (out .exit)) ⌝ }
+    requires { ⌜ 156 ≤ length (now out) ⌝ }
+    ensures { λ _. ⌜ Placed 156 0 (join (callRows call)) (now (out .entry)) (now (out .exit)) ⌝ }
 {
     let supplied = call.supplied;
     let dhkey = supplied.dhkey;
-    let f4 = supplied.f4;
+    let own_confirm = supplied.ownconfirm;
+    let peer_confirm = supplied.peerconfirm;
     place_drawn(out, call);
     fields::place32(out, 24, dhkey);
-    fields::place16(out, 56, f4);
-    fields::place(out, 72, &fields::bytes4(supplied.g2));
+    fields::place16(out, 56, own_confirm);
+    fields::place16(out, 72, peer_confirm);
+    fields::place(out, 88, &fields::bytes4(supplied.g2));
     place_checks(out, call);
 }
 
 // What comes before the DH key.
 fn place_drawn(out: &mut [u8], call: Call)
-    requires { ⌜ 140 ≤ length (now out) ⌝ }
+    requires { ⌜ 156 ≤ length (now out) ⌝ }
     ensures { λ _. ⌜ Placed 24 0 (join (take 5 (callRows call))) (now (out .entry)) (now (out .exit)) ⌝ }
 {
     let given = call.given;
@@ -244,49 +248,50 @@ fn place_drawn(out: &mut [u8], call: Call)
 
 // The answers of f5 and f6.
 fn place_checks(out: &mut [u8], call: Call)
-    requires { ⌜ 140 ≤ length (now out) ⌝ }
-    ensures { λ _. ⌜ Placed 64 76 (join (drop 8 (callRows call))) (now (out .entry)) (now (out .exit)) ⌝ }
+    requires { ⌜ 156 ≤ length (now out) ⌝ }
+    ensures { λ _. ⌜ Placed 64 92 (join (drop 9 (callRows call))) (now (out .entry)) (now (out .exit)) ⌝ }
 {
     let supplied = call.supplied;
     let mackey = supplied.mackey;
     let ltk = supplied.ltk;
-    let ea = supplied.ea;
-    let eb = supplied.eb;
-    fields::place16(out, 76, mackey);
-    fields::place16(out, 92, ltk);
-    fields::place16(out, 108, ea);
-    fields::place16(out, 124, eb);
+    let peer_check = supplied.peercheck;
+    let own_check = supplied.owncheck;
+    fields::place16(out, 92, mackey);
+    fields::place16(out, 108, ltk);
+    fields::place16(out, 124, peer_check);
+    fields::place16(out, 140, own_check);
 }
 
-// All 193 bytes.
+// All 209 bytes.
 fn place_event(out: &mut [u8], call: EventCall)
-    requires { ⌜ 193 ≤ length (now out) ⌝ }
-    ensures { λ _. ⌜ Placed 193 0 (join (callRows (call .call)) ++ join (eventRows call)) (now (out .entry)) (now (out .exit)) ⌝ }
+    requires { ⌜ 209 ≤ length (now out) ⌝ }
+    ensures { λ _. ⌜ Placed 209 0 (join (callRows (call .call)) ++ join (eventRows call)) (now (out .entry)) (now (out .exit)) ⌝ }
 {
     let common = call.call;
     let came = call.came;
     let values = call.values;
-    let local = values.local;
-    let random = values.random;
-    let confirm = values.confirm;
+    let own_random = values.ownrandom;
+    let peer_random = values.peerrandom;
+    let peer_confirm = values.peerconfirm;
     let head = event_head(came);
     place_call(out, common);
-    fields::place(out, 140, &head);
-    fields::place16(out, 145, local);
-    fields::place16(out, 161, random);
-    fields::place16(out, 177, confirm);
+    fields::place(out, 156, &head);
+    fields::place16(out, 161, own_random);
+    fields::place16(out, 177, peer_random);
+    fields::place16(out, 193, peer_confirm);
 }
 
 fn given_number(given: Given) -> u8
     ensures { λ r. ⌜ r ≡ givenNumber given ⌝ }
 {
     let dh = fields::flag(given.dh);
-    let f4 = fields::flag(given.f4);
+    let own_confirm = fields::flag(given.ownconfirm);
+    let peer_confirm = fields::flag(given.peerconfirm);
     let g2 = fields::flag(given.g2);
     let f5 = fields::flag(given.f5);
-    let ea = fields::flag(given.ea);
-    let eb = fields::flag(given.eb);
-    dh + 2 * f4 + 4 * g2 + 8 * f5 + 16 * ea + 32 * eb
+    let peer_check = fields::flag(given.peercheck);
+    let own_check = fields::flag(given.owncheck);
+    dh + 2 * own_confirm + 4 * peer_confirm + 8 * g2 + 16 * f5 + 32 * peer_check + 64 * own_check
 }
 
 // The event's byte and its number.

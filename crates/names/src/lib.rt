@@ -126,10 +126,11 @@ pub fn question(kind: QuestionKind) -> [u8; 36]
     match kind {
         QuestionKind::Nothing => words::NO_QUESTION,
         QuestionKind::DH => words::DH,
-        QuestionKind::F4 => words::F4,
+        QuestionKind::OwnConfirm => words::F4_OWN,
+        QuestionKind::PeerConfirm => words::F4_PEER,
         QuestionKind::G2 => words::G2,
         QuestionKind::F5 => words::F5,
-        QuestionKind::Ea => words::F6A,
-        QuestionKind::Eb => words::F6B,
+        QuestionKind::PeerCheck => words::F6_PEER,
+        QuestionKind::OwnCheck => words::F6_OWN,
     }
 }

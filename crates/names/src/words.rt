@@ -110,12 +110,14 @@ pub(crate) const NO_QUESTION: [u8; 36] = *b"-                                   
 
 pub(crate) const DH: [u8; 36] = *b"DH                                  ";
 
-pub(crate) const F4: [u8; 36] = *b"f4                                  ";
+pub(crate) const F4_OWN: [u8; 36] = *b"f4own                               ";
+
+pub(crate) const F4_PEER: [u8; 36] = *b"f4peer                              ";
 
 pub(crate) const G2: [u8; 36] = *b"g2                                  ";
 
 pub(crate) const F5: [u8; 36] = *b"f5                                  ";
 
-pub(crate) const F6A: [u8; 36] = *b"f6a                                 ";
+pub(crate) const F6_PEER: [u8; 36] = *b"f6peer                              ";
 
-pub(crate) const F6B: [u8; 36] = *b"f6b                                 ";
+pub(crate) const F6_OWN: [u8; 36] = *b"f6own                               ";

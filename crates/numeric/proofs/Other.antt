@@ -31,8 +31,8 @@ comparison-other m held I.OobDataReceived a k = refl
 abbrev compares-rest : List ℕ
 compares-rest = 1 ∷ 2 ∷ 3 ∷ []
 
-pub compares-other : (x : PairingMethod) (m : State) (na : List ℕ) (g2 : ℕ) → OneOf compares-rest (tagOf method.the-type x) → compares x m na g2 ≡ compares NumericComparison m na g2
-compares-other JustWorks m na g2 k = absurd (miss compares-rest 0 tt k)
-compares-other NumericComparison m na g2 k = refl
-compares-other (PassKeyEntry central peripheral) m na g2 k = refl
-compares-other OutOfBand m na g2 k = refl
+pub compares-other : (x : PairingMethod) (m : State) (nonce : List ℕ) (g2 : ℕ) → OneOf compares-rest (tagOf method.the-type x) → compares x m nonce g2 ≡ compares NumericComparison m nonce g2
+compares-other JustWorks m nonce g2 k = absurd (miss compares-rest 0 tt k)
+compares-other NumericComparison m nonce g2 k = refl
+compares-other (PassKeyEntry central peripheral) m nonce g2 k = refl
+compares-other OutOfBand m nonce g2 k = refl

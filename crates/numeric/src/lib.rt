@@ -48,13 +48,13 @@ pub fn comparison_event(
 }
 
 // Our nonce goes out. Just Works goes on; else the user compares six digits.
-fn compare(method: PairingMethod, state: State, na: [u8; 16], g2: u32, out: &mut [u8]) -> Step
-    ensures { λ r. ⌜ Met (compares method state na g2) r (now (out .entry)) (now (out .exit)) ⌝ }
+fn compare(method: PairingMethod, state: State, nonce: [u8; 16], g2: u32, out: &mut [u8]) -> Step
+    ensures { λ r. ⌜ Met (compares method state nonce g2) r (now (out .entry)) (now (out .exit)) ⌝ }
 {
     let mut secrets = state.secrets;
-    let nb = secrets.nb;
-    secrets.na = na;
-    let sent = frames::random(out, nb);
+    let own_nonce = secrets.ownnonce;
+    secrets.peernonce = nonce;
+    let sent = frames::random(out, own_nonce);
     match method {
         PairingMethod::JustWorks => outcome::goes(
             state,

@@ -43,25 +43,25 @@ pub fn oob_random(
     if payload.len() != 16 {
         return outcome::failed(state, Failure::InvalidValue);
     }
-    let na = octets::reversed16(payload);
-    let nb = supplied.nonce;
-    let sent = frames::random(out, nb);
+    let peer_nonce = octets::reversed16(payload);
+    let own_nonce = supplied.nonce;
+    let sent = frames::random(out, own_nonce);
     let secrets = state.secrets;
     outcome::goes(
         state,
         Phase::WaitingDHKeyEa,
-        with_nonces(secrets, na, nb),
+        with_nonces(secrets, peer_nonce, own_nonce),
         sent,
         ConnectionEvent::Nothing,
     )
 }
 
-fn with_nonces(secrets: Secrets, na: [u8; 16], nb: [u8; 16]) -> Secrets
-    ensures { λ r. ⌜ r ≡ setNonces secrets na nb ⌝ }
+fn with_nonces(secrets: Secrets, peer: [u8; 16], own: [u8; 16]) -> Secrets
+    ensures { λ r. ⌜ r ≡ setNonces secrets peer own ⌝ }
 {
     let mut drawn = secrets;
-    drawn.na = na;
-    drawn.nb = nb;
+    drawn.peernonce = peer;
+    drawn.ownnonce = own;
     drawn
 }
 
@@ -72,12 +72,12 @@ fn received(state: State, values: OobData, supplied: Supplied) -> Step
     if confirm_agrees(values, supplied) {
         let features = state.features;
         let oob = features.oob;
-        let random = values.random;
-        let local = values.local;
+        let random = values.peerrandom;
+        let own_random = values.ownrandom;
         let mut secrets = state.secrets;
-        let ours = our_secret(oob, local);
-        secrets.ra = random;
-        secrets.rb = ours;
+        let ours = our_secret(oob, own_random);
+        secrets.peersecret = random;
+        secrets.ownsecret = ours;
         return outcome::goes(
             state,
             Phase::WaitingOobRandom,
@@ -93,23 +93,23 @@ fn received(state: State, values: OobData, supplied: Supplied) -> Step
 fn confirm_agrees(values: OobData, supplied: Supplied) -> bool
     ensures { λ r. ⌜ r ≡ agrees values supplied ⌝ }
 {
-    let random = values.random;
-    let confirm = values.confirm;
-    let f4 = supplied.f4;
+    let random = values.peerrandom;
+    let confirm = values.peerconfirm;
+    let right = supplied.peerconfirm;
     if octets::all_zero16(random) {
         if octets::all_zero16(confirm) {
             return true;
         }
-        return octets::equal16(confirm, f4);
+        return octets::equal16(confirm, right);
     }
-    octets::equal16(confirm, f4)
+    octets::equal16(confirm, right)
 }
 
-fn our_secret(oob: UseOutOfBand, local: [u8; 16]) -> [u8; 16]
-    ensures { λ r. ⌜ r ≡ cond (set oob) local (zeros 16) ⌝ }
+fn our_secret(oob: UseOutOfBand, random: [u8; 16]) -> [u8; 16]
+    ensures { λ r. ⌜ r ≡ cond (set oob) random (zeros 16) ⌝ }
 {
     match oob {
         UseOutOfBand::NotPresent => [0u8; 16],
-        UseOutOfBand::Present => local,
+        UseOutOfBand::Present => random,
     }
 }

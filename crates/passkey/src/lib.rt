@@ -78,10 +78,10 @@ pub fn random(
     }
     if confirmed(state, supplied) {
         let mut secrets = state.secrets;
-        let nb = secrets.nb;
-        let sent = frames::random(out, nb);
-        let na = octets::reversed16(payload);
-        secrets.na = na;
+        let own_nonce = secrets.ownnonce;
+        let sent = frames::random(out, own_nonce);
+        let peer_nonce = octets::reversed16(payload);
+        secrets.peernonce = peer_nonce;
         return outcome::goes(
             state,
             behind(round),
@@ -95,12 +95,12 @@ pub fn random(
 
 // Whether the confirm kept for the round is the right one.
 fn confirmed(state: State, supplied: Supplied) -> bool
-    ensures { λ r. ⌜ r ≡ same (state .secrets .ca) (supplied .f4) ⌝ }
+    ensures { λ r. ⌜ r ≡ same (state .secrets .confirm) (supplied .peerconfirm) ⌝ }
 {
     let secrets = state.secrets;
-    let ca = secrets.ca;
-    let f4 = supplied.f4;
-    octets::equal16(ca, f4)
+    let confirm = secrets.confirm;
+    let right = supplied.peerconfirm;
+    octets::equal16(confirm, right)
 }
 
 // The passkey was typed: it becomes both secrets, and a held confirm is round 0's.
@@ -127,18 +127,18 @@ fn confirm_round(
     state: State,
     secrets: Secrets,
     round: u8,
-    ca: [u8; 16],
+    value: [u8; 16],
     supplied: Supplied,
     out: &mut [u8],
 ) -> Step
-    ensures { λ r. ⌜ Met (confirming state secrets round ca supplied) r (now (out .entry)) (now (out .exit)) ⌝ }
+    ensures { λ r. ⌜ Met (confirming state secrets round value supplied) r (now (out .entry)) (now (out .exit)) ⌝ }
 {
-    let f4 = supplied.f4;
-    let nb = supplied.nonce;
-    let sent = frames::confirm(out, f4);
+    let own_confirm = supplied.ownconfirm;
+    let nonce = supplied.nonce;
+    let sent = frames::confirm(out, own_confirm);
     let mut kept = secrets;
-    kept.ca = ca;
-    kept.nb = nb;
+    kept.confirm = value;
+    kept.ownnonce = nonce;
     outcome::goes(
         state,
         Phase::WaitingPassKeyEntryRandom(round),

@@ -94,17 +94,17 @@ received-other m I.OobDataReceived o k = absurd (miss received-rest 4 tt k)
 abbrev key-rest : List ℕ
 key-rest = 2 ∷ 3 ∷ []
 
-pub key-other : (x : PairingMethod) (m : State) (pkax : List ℕ) (a : Supplied) → OneOf key-rest (tagOf method.the-type x) → keyAsks x m pkax a ≡ []
-key-other JustWorks m pkax a k = absurd (miss key-rest 0 tt k)
-key-other NumericComparison m pkax a k = absurd (miss key-rest 1 tt k)
-key-other (PassKeyEntry central peripheral) m pkax a k = refl
-key-other OutOfBand m pkax a k = refl
+pub key-other : (x : PairingMethod) (m : State) (peerx : List ℕ) (a : Supplied) → OneOf key-rest (tagOf method.the-type x) → keyAsks x m peerx a ≡ []
+key-other JustWorks m peerx a k = absurd (miss key-rest 0 tt k)
+key-other NumericComparison m peerx a k = absurd (miss key-rest 1 tt k)
+key-other (PassKeyEntry central peripheral) m peerx a k = refl
+key-other OutOfBand m peerx a k = refl
 
 abbrev compare-rest : List ℕ
 compare-rest = 1 ∷ 2 ∷ 3 ∷ []
 
-pub compare-other : (x : PairingMethod) (m : State) (na : List ℕ) → OneOf compare-rest (tagOf method.the-type x) → compareAsks x m na ≡ compareAsks NumericComparison m na
-compare-other JustWorks m na k = absurd (miss compare-rest 0 tt k)
-compare-other NumericComparison m na k = refl
-compare-other (PassKeyEntry central peripheral) m na k = refl
-compare-other OutOfBand m na k = refl
+pub compare-other : (x : PairingMethod) (m : State) (nonce : List ℕ) → OneOf compare-rest (tagOf method.the-type x) → compareAsks x m nonce ≡ compareAsks NumericComparison m nonce
+compare-other JustWorks m nonce k = absurd (miss compare-rest 0 tt k)
+compare-other NumericComparison m nonce k = refl
+compare-other (PassKeyEntry central peripheral) m nonce k = refl
+compare-other OutOfBand m nonce k = refl

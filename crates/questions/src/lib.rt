@@ -22,8 +22,8 @@ ghost use Rattle.machine.specs.Questions.{
   askF6,
   kinded,
   askLtk,
-  askEa,
-  askEb,
+  askPeerCheck,
+  askOwnCheck,
   keyAsks,
   compareAsks,
   checkAsks,
@@ -156,11 +156,17 @@ fn our_confirm(
     ensures { λ r. ⌜ r ≡ nextOf given (keyAsks method state x supplied) ⌝ }
 {
     let setup = state.setup;
-    let pkbx = setup.pkbx;
+    let own_x = setup.keyx;
     let nonce = supplied.nonce;
     match method {
-        PairingMethod::JustWorks => unless(given.f4, ask_f4(pkbx, x, nonce, 0)),
-        PairingMethod::NumericComparison => unless(given.f4, ask_f4(pkbx, x, nonce, 0)),
+        PairingMethod::JustWorks => unless(
+            given.ownconfirm,
+            ask_f4(QuestionKind::OwnConfirm, own_x, x, nonce, 0),
+        ),
+        PairingMethod::NumericComparison => unless(
+            given.ownconfirm,
+            ask_f4(QuestionKind::OwnConfirm, own_x, x, nonce, 0),
+        ),
         _ => none(),
     }
 }
@@ -179,17 +185,17 @@ fn comparison(state: State, code: u8, payload: &[u8], supplied: Supplied, given:
     compared_number(method, state, octets::reversed16(payload), given)
 }
 
-fn compared_number(method: PairingMethod, state: State, na: [u8; 16], given: Given) -> Question
-    ensures { λ r. ⌜ r ≡ nextOf given (compareAsks method state na) ⌝ }
+fn compared_number(method: PairingMethod, state: State, nonce: [u8; 16], given: Given) -> Question
+    ensures { λ r. ⌜ r ≡ nextOf given (compareAsks method state nonce) ⌝ }
 {
     let setup = state.setup;
     let secrets = state.secrets;
-    let pkbx = setup.pkbx;
-    let pkax = secrets.pkax;
-    let nb = secrets.nb;
+    let own_x = setup.keyx;
+    let peer_x = secrets.peerx;
+    let own_nonce = secrets.ownnonce;
     match method {
         PairingMethod::JustWorks => none(),
-        _ => unless(given.g2, ask_g2(pkax, pkbx, na, nb)),
+        _ => unless(given.g2, ask_g2(peer_x, own_x, nonce, own_nonce)),
     }
 }
 
@@ -225,12 +231,13 @@ fn round_confirm(
 {
     let setup = state.setup;
     let secrets = state.secrets;
-    let pkbx = setup.pkbx;
-    let pkax = secrets.pkax;
+    let own_x = setup.keyx;
+    let peer_x = secrets.peerx;
     let nonce = supplied.nonce;
+    let z = rounds::z(passkey, round);
     unless(
-        given.f4,
-        ask_f4(pkbx, pkax, nonce, rounds::z(passkey, round)),
+        given.ownconfirm,
+        ask_f4(QuestionKind::OwnConfirm, own_x, peer_x, nonce, z),
     )
 }
 
@@ -253,12 +260,13 @@ fn random(
     }
     let setup = state.setup;
     let secrets = state.secrets;
-    let pkbx = setup.pkbx;
-    let pkax = secrets.pkax;
-    let na = octets::reversed16(payload);
+    let own_x = setup.keyx;
+    let peer_x = secrets.peerx;
+    let peer_nonce = octets::reversed16(payload);
+    let z = rounds::z(secrets.passkey, round);
     unless(
-        given.f4,
-        ask_f4(pkax, pkbx, na, rounds::z(secrets.passkey, round)),
+        given.peerconfirm,
+        ask_f4(QuestionKind::PeerConfirm, peer_x, own_x, peer_nonce, z),
     )
 }
 
@@ -279,24 +287,24 @@ fn check(state: State, code: u8, payload: &[u8], supplied: Supplied, given: Give
 fn check_value(
     state: State,
     whole: bool,
-    ea: [u8; 16],
+    value: [u8; 16],
     supplied: Supplied,
     given: Given,
 ) -> Question
-    ensures { λ r. ⌜ r ≡ nextOf given (checkAsks state whole ea supplied) ⌝ }
+    ensures { λ r. ⌜ r ≡ nextOf given (checkAsks state whole value supplied) ⌝ }
 {
     if given.f5 {
-        if given.ea {
+        if given.peercheck {
             if whole {
-                let right = supplied.ea;
-                if octets::equal16(ea, right) {
-                    return unless(given.eb, ask_eb(state, supplied));
+                let right = supplied.peercheck;
+                if octets::equal16(value, right) {
+                    return unless(given.owncheck, ask_own_check(state, supplied));
                 }
                 return none();
             }
             return none();
         }
-        return ask_ea(state, supplied);
+        return ask_peer_check(state, supplied);
     }
     ask_ltk(state)
 }
@@ -347,16 +355,22 @@ fn peer_data(state: State, values: OobData, given: Given) -> Question
     ensures { λ r. ⌜ r ≡ nextOf given (oobAsks state values) ⌝ }
 {
     let secrets = state.secrets;
-    let pkax = secrets.pkax;
-    let random = values.random;
-    let confirm = values.confirm;
+    let peer_x = secrets.peerx;
+    let random = values.peerrandom;
+    let confirm = values.peerconfirm;
     if octets::all_zero16(random) {
         if octets::all_zero16(confirm) {
             return none();
         }
-        return unless(given.f4, ask_f4(pkax, pkax, random, 0));
+        return unless(
+            given.peerconfirm,
+            ask_f4(QuestionKind::PeerConfirm, peer_x, peer_x, random, 0),
+        );
     }
-    unless(given.f4, ask_f4(pkax, pkax, random, 0))
+    unless(
+        given.peerconfirm,
+        ask_f4(QuestionKind::PeerConfirm, peer_x, peer_x, random, 0),
+    )
 }
 
 // A question, unless it has its answer.
@@ -375,50 +389,68 @@ fn ask_ltk(state: State) -> Question
     let setup = state.setup;
     let secrets = state.secrets;
     let dhkey = secrets.dhkey;
-    let na = secrets.na;
-    let nb = secrets.nb;
+    let peer_nonce = secrets.peernonce;
+    let own_nonce = secrets.ownnonce;
     let peer = setup.peer;
-    let local = setup.local;
+    let own = setup.own;
     let mut question = none();
     question.u = dhkey;
-    question.n1 = na;
-    question.n2 = nb;
+    question.n1 = peer_nonce;
+    question.n2 = own_nonce;
     question.a1 = peer;
-    question.a2 = local;
+    question.a2 = own;
     of_kind(QuestionKind::F5, question)
 }
 
-fn ask_ea(state: State, supplied: Supplied) -> Question
-    ensures { λ r. ⌜ r ≡ askEa state supplied ⌝ }
+fn ask_peer_check(state: State, supplied: Supplied) -> Question
+    ensures { λ r. ⌜ r ≡ askPeerCheck state supplied ⌝ }
 {
     let setup = state.setup;
     let secrets = state.secrets;
     let features = state.features;
     let key = supplied.mackey;
-    let na = secrets.na;
-    let nb = secrets.nb;
-    let rb = secrets.rb;
+    let peer_nonce = secrets.peernonce;
+    let own_nonce = secrets.ownnonce;
+    let own_secret = secrets.ownsecret;
     let iocap = features.io_cap();
     let peer = setup.peer;
-    let local = setup.local;
-    ask_f6(QuestionKind::Ea, key, na, nb, rb, iocap, peer, local)
+    let own = setup.own;
+    ask_f6(
+        QuestionKind::PeerCheck,
+        key,
+        peer_nonce,
+        own_nonce,
+        own_secret,
+        iocap,
+        peer,
+        own,
+    )
 }
 
-fn ask_eb(state: State, supplied: Supplied) -> Question
-    ensures { λ r. ⌜ r ≡ askEb state supplied ⌝ }
+fn ask_own_check(state: State, supplied: Supplied) -> Question
+    ensures { λ r. ⌜ r ≡ askOwnCheck state supplied ⌝ }
 {
     let setup = state.setup;
     let secrets = state.secrets;
     let features = state.features;
     let ours = request::local_features(setup, features);
     let key = supplied.mackey;
-    let na = secrets.na;
-    let nb = secrets.nb;
-    let ra = secrets.ra;
+    let peer_nonce = secrets.peernonce;
+    let own_nonce = secrets.ownnonce;
+    let peer_secret = secrets.peersecret;
     let iocap = ours.io_cap();
     let peer = setup.peer;
-    let local = setup.local;
-    ask_f6(QuestionKind::Eb, key, nb, na, ra, iocap, local, peer)
+    let own = setup.own;
+    ask_f6(
+        QuestionKind::OwnCheck,
+        key,
+        own_nonce,
+        peer_nonce,
+        peer_secret,
+        iocap,
+        own,
+        peer,
+    )
 }
 
 fn ask_dh(x: [u8; 32], y: [u8; 32]) -> Question
@@ -430,15 +462,15 @@ fn ask_dh(x: [u8; 32], y: [u8; 32]) -> Question
     of_kind(QuestionKind::DH, question)
 }
 
-fn ask_f4(u: [u8; 32], v: [u8; 32], x: [u8; 16], z: u8) -> Question
-    ensures { λ r. ⌜ r ≡ askF4 u v x z ⌝ }
+fn ask_f4(kind: QuestionKind, u: [u8; 32], v: [u8; 32], x: [u8; 16], z: u8) -> Question
+    ensures { λ r. ⌜ r ≡ askF4 kind u v x z ⌝ }
 {
     let mut question = none();
     question.u = u;
     question.v = v;
     question.n1 = x;
     question.z = z;
-    of_kind(QuestionKind::F4, question)
+    of_kind(kind, question)
 }
 
 fn ask_g2(u: [u8; 32], v: [u8; 32], x: [u8; 16], y: [u8; 16]) -> Question

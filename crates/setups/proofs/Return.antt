@@ -163,8 +163,8 @@ module _ (c : SetupCall) (s : Sound c) where
   passkey : numberAt 4 7 payload ≡ configuredPasskey (c .setup .passkey)
   passkey = ap number (row 6) ∙ number-four (configuredPasskey (c .setup .passkey)) (s .passkey)
 
-  local : Told 91 payload (c .setup .local)
-  local = address-back 91 payload (c .setup .local) (omega (arith, size)) (row 10)
+  own : Told 91 payload (c .setup .own)
+  own = address-back 91 payload (c .setup .own) (omega (arith, size)) (row 10)
 
   identity : Told 98 payload (c .setup .identity)
   identity = address-back 98 payload (c .setup .identity) (omega (arith, size)) (row 11)
@@ -203,7 +203,7 @@ module _ (c : SetupCall) (s : Sound c) where
         string 32 11 _ (omega arith) (row 7),
         string 32 43 _ (omega arith) (row 8),
         string 16 75 _ (omega arith) (row 9),
-        local .says,
+        own .says,
         identity .says,
         peer .says,
         there,
@@ -229,7 +229,7 @@ module _ (c : SetupCall) (s : Sound c) where
       (test-first _ _ (small 5 _ 1 bonding (flag-small (c .setup .bonding)))
       (test-first _ _ (small 6 _ 1 configured (configured-small (c .setup .passkey)))
       (test-first _ _ (rw (configured, passkey) (configured-fits (c .setup .passkey)))
-      (test-first _ _ (small 91 _ 1 (local .kind) (kind-small (c .setup .local .kind)))
+      (test-first _ _ (small 91 _ 1 (own .kind) (kind-small (c .setup .own .kind)))
       (test-first _ _ (small 98 _ 1 (identity .kind) (kind-small (c .setup .identity .kind)))
       (test-first _ _ (small 105 _ 1 (peer .kind) (kind-small (c .setup .peer .kind)))
       (test-first _ _ (small 112 _ 1 there (flag-small (c .setup .known .there)))

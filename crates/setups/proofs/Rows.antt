@@ -18,5 +18,5 @@ unfolding join
 six-and a b c d e f rs = simp append-assoc
 
 pub box-rows : (s : Setup)
-    → s .pkbx ++ s .pkby ++ s .irk ++ (addressOctets (s .local) ++ addressOctets (s .identity) ++ addressOctets (s .peer)) ++ join (bondRows (s .known)) ≡ join (boxRows s)
-box-rows s = six-and (s .pkbx) (s .pkby) (s .irk) (addressOctets (s .local)) (addressOctets (s .identity)) (addressOctets (s .peer)) (bondRows (s .known))
+    → s .keyx ++ s .keyy ++ s .irk ++ (addressOctets (s .own) ++ addressOctets (s .identity) ++ addressOctets (s .peer)) ++ join (bondRows (s .known)) ≡ join (boxRows s)
+box-rows s = six-and (s .keyx) (s .keyy) (s .irk) (addressOctets (s .own)) (addressOctets (s .identity)) (addressOctets (s .peer)) (bondRows (s .known))

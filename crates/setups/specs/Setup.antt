@@ -73,10 +73,10 @@ bondRows k =
 
 abbrev pub boxRows : Setup → List (List ℕ)
 boxRows s =
-    s .pkbx  -- 11
-    ∷ s .pkby  -- 43
+    s .keyx  -- 11
+    ∷ s .keyy  -- 43
     ∷ s .irk  -- 75
-    ∷ addressOctets (s .local)  -- 91
+    ∷ addressOctets (s .own)  -- 91
     ∷ addressOctets (s .identity)  -- 98
     ∷ addressOctets (s .peer)  -- 105
     ∷ bondRows (s .known)
@@ -107,10 +107,10 @@ setupAt l =
       oob = oobOf (getD l 4 0);
       bonding = flagAt 5 l;
       passkey = configuredOf (getD l 6 0) (numberAt 4 7 l);
-      pkbx = field 32 11 l;
-      pkby = field 32 43 l;
+      keyx = field 32 11 l;
+      keyy = field 32 43 l;
       irk = field 16 75 l;
-      local = addressAt 91 l;
+      own = addressAt 91 l;
       identity = addressAt 98 l;
       peer = addressAt 105 l;
       known = knownAt l;

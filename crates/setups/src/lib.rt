@@ -136,10 +136,10 @@ fn setup_of(p: &[u8]) -> Setup
         oob: features::oob_of(fields::byte(p, 4)),
         bonding: fields::byte(p, 5) == 1,
         passkey: configured_of(p),
-        pkbx: fields::thirty_two(p, 11),
-        pkby: fields::thirty_two(p, 43),
+        keyx: fields::thirty_two(p, 11),
+        keyy: fields::thirty_two(p, 43),
         irk: fields::sixteen(p, 75),
-        local: address_of(p, 91),
+        own: address_of(p, 91),
         identity: address_of(p, 98),
         peer: address_of(p, 105),
         known: bond_of(p),
@@ -221,26 +221,26 @@ fn place_box(out: &mut [u8], setup: Setup)
     requires { ⌜ 153 ≤ length (now out) ⌝ }
     ensures { λ _. ⌜ Placed 142 11 (join (boxRows setup)) (now (out .entry)) (now (out .exit)) ⌝ }
 {
-    let x = setup.pkbx;
-    let y = setup.pkby;
+    let x = setup.keyx;
+    let y = setup.keyy;
     let irk = setup.irk;
-    let local = setup.local;
+    let own = setup.own;
     let identity = setup.identity;
     let peer = setup.peer;
     let known = setup.known;
     fields::place32(out, 11, x);
     fields::place32(out, 43, y);
     fields::place16(out, 75, irk);
-    place_addresses(out, local, identity, peer);
+    place_addresses(out, own, identity, peer);
     place_bond(out, known);
 }
 
 // The three addresses.
-fn place_addresses(out: &mut [u8], local: Address, identity: Address, peer: Address)
+fn place_addresses(out: &mut [u8], own: Address, identity: Address, peer: Address)
     requires { ⌜ 153 ≤ length (now out) ⌝ }
-    ensures { λ _. ⌜ Placed 21 91 (addressOctets local ++ addressOctets identity ++ addressOctets peer) (now (out .entry)) (now (out .exit)) ⌝ }
+    ensures { λ _. ⌜ Placed 21 91 (addressOctets own ++ addressOctets identity ++ addressOctets peer) (now (out .entry)) (now (out .exit)) ⌝ }
 {
-    place_address(out, 91, local);
+    place_address(out, 91, own);
     place_address(out, 98, identity);
     place_address(out, 105, peer);
 }

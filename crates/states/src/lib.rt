@@ -62,17 +62,17 @@ pub fn finished(state: State) -> bool
 }
 
 // What the two sides have exchanged once keys are: secrets not set are zero.
-pub fn fresh_secrets(pkax: [u8; 32], dhkey: [u8; 32]) -> Secrets
-    ensures { λ r. ⌜ r ≡ fresh pkax dhkey ⌝ }
+pub fn fresh_secrets(peerx: [u8; 32], dhkey: [u8; 32]) -> Secrets
+    ensures { λ r. ⌜ r ≡ fresh peerx dhkey ⌝ }
 {
     Secrets {
-        pkax,
+        peerx,
         dhkey,
-        ca: [0u8; 16],
-        na: [0u8; 16],
-        nb: [0u8; 16],
-        ra: [0u8; 16],
-        rb: [0u8; 16],
+        confirm: [0u8; 16],
+        peernonce: [0u8; 16],
+        ownnonce: [0u8; 16],
+        peersecret: [0u8; 16],
+        ownsecret: [0u8; 16],
         passkey: 0,
         held: [0u8; 16],
     }
@@ -84,8 +84,8 @@ pub fn with_passkey(secrets: Secrets, passkey: u32) -> Secrets
 {
     let mut set = secrets;
     let secret = rounds::secret(passkey);
-    set.ra = secret;
-    set.rb = secret;
+    set.peersecret = secret;
+    set.ownsecret = secret;
     set.passkey = passkey;
     set
 }

@@ -143,11 +143,12 @@ pub(crate) fn question(line: Line, asked: Question) -> Line {
     match kind {
         QuestionKind::Nothing => named,
         QuestionKind::DH => coordinates(named, asked),
-        QuestionKind::F4 => commitment(named, asked),
+        QuestionKind::OwnConfirm => commitment(named, asked),
+        QuestionKind::PeerConfirm => commitment(named, asked),
         QuestionKind::G2 => comparison(named, asked),
         QuestionKind::F5 => derivation(named, asked),
-        QuestionKind::Ea => check_value(named, asked),
-        QuestionKind::Eb => check_value(named, asked),
+        QuestionKind::PeerCheck => check_value(named, asked),
+        QuestionKind::OwnCheck => check_value(named, asked),
     }
 }
 

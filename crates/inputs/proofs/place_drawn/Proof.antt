@@ -11,7 +11,7 @@ use Rattle.inputs.proofs.place_drawn.Tie as tie
 returns : tie.Need-returns
 unfolding little
 returns c =
-    let f = first 140 (piece 2 _ (c .before .before .before .before .before .before .before .before .before .before .before .before .before .before .before .before .before .before .before .before .before .before .before .before .place .ensures) (ap length (c .before .before .before .before .before .before .before .before .before .before .before .before .before .before .before .before .before .before .before .before .before .before .before .before .before .before .bytes2 .ensures))) (c .before .before .before .before .before .before .before .before .before .before .before .before .before .before .before .before .before .before .before .before .before .before .before .before .before .before .before .before .before .before .before .before .pre) in
+    let f = first 156 (piece 2 _ (c .before .before .before .before .before .before .before .before .before .before .before .before .before .before .before .before .before .before .before .before .before .before .before .before .place .ensures) (ap length (c .before .before .before .before .before .before .before .before .before .before .before .before .before .before .before .before .before .before .before .before .before .before .before .before .before .before .bytes2 .ensures))) (c .before .before .before .before .before .before .before .before .before .before .before .before .before .before .before .before .before .before .before .before .before .before .before .before .before .before .before .before .before .before .before .before .pre) in
     let f = more f (piece 1 _ (c .before .before .before .before .before .before .before .before .before .before .before .before .before .before .before .before .before .before .place2 .ensures) refl) refl in
     let f = more f (c .before .before .before .before .before .before .before .before .before .before .before .before .before .before .place16 .ensures) refl in
     let f = more f (piece 4 _ (c .before .before .before .before .before .before .before .before .place3 .ensures) (ap length (c .before .before .before .before .before .before .before .before .before .before .bytes4 .ensures))) refl in

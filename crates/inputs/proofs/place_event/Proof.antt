@@ -11,7 +11,7 @@ use Rattle.inputs.proofs.place_event.Tie as tie
 returns : tie.Need-returns
 unfolding little
 returns c =
-    let f = first 193 (c .before .before .before .before .before .before .before .before .before .before .before .before .before .before .before .before .before .before .before .place-call .ensures) (c .before .before .before .before .before .before .before .before .before .before .before .before .before .before .before .before .before .before .before .before .before .before .before .before .before .before .before .before .pre) in
+    let f = first 209 (c .before .before .before .before .before .before .before .before .before .before .before .before .before .before .before .before .before .before .before .place-call .ensures) (c .before .before .before .before .before .before .before .before .before .before .before .before .before .before .before .before .before .before .before .before .before .before .before .before .before .before .before .before .pre) in
     let f = more f (piece 5 _ (c .before .before .before .before .before .before .before .before .before .before .before .before .before .before .place .ensures) (ap length (c .before .before .before .before .before .before .before .before .before .before .before .before .before .before .before .before .before .before .before .before .before .event-head .ensures))) refl in
     let f = more f (c .before .before .before .before .before .before .before .before .before .before .place16 .ensures) refl in
     let f = more f (c .before .before .before .before .before .before .place162 .ensures) refl in

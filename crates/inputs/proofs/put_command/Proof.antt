@@ -19,13 +19,13 @@ returns-2 c = rw (le-leb _ _ (c .before .if1 .left), lt-leb _ _ (c .if2 .taken))
 
 returns-3 : tie.Need-returns-3
 unfolding commandOctets
-returns-3 c = rw (le-leb _ _ (c .before .before .before .before .before .if1 .left), le-leb _ _ (c .before .before .before .before .if2 .left)) (no-frames (join (callRows (c .before .before .before .before .before .before .before .before .before .args .call))) (c .before .before .before .before .before .before .before .before .before .args .cmd .now) _ 140 _ (c .before .before .place-call .ensures .size) refl (c .if3 .taken))
+returns-3 c = rw (le-leb _ _ (c .before .before .before .before .before .if1 .left), le-leb _ _ (c .before .before .before .before .if2 .left)) (no-frames (join (callRows (c .before .before .before .before .before .before .before .before .before .args .call))) (c .before .before .before .before .before .before .before .before .before .args .cmd .now) _ 156 _ (c .before .before .place-call .ensures .size) refl (c .if3 .taken))
 
 returns-4 : tie.Need-returns-4
 unfolding commandOctets
 returns-4 c =
     rw (le-leb _ _ (c .before .before .before .before .before .before .before .before .before .before .before .before .before .before .if1 .left), le-leb _ _ (c .before .before .before .before .before .before .before .before .before .before .before .before .before .if2 .left))
-    (both-framed (join (callRows (c .before .before .before .before .before .before .before .before .before .before .before .before .before .before .before .before .before .before .args .call))) (c .before .before .before .before .before .before .before .before .before .before .before .before .before .before .before .before .before .before .args .cmd .now) _ 140 _ (c .before .before .before .before .before .before .before .before .before .before .before .place-call .ensures .size) refl _ _ _ _ (c .before .before .before .before .before .before .before .before .before .if3 .left) (wrote-as _ (all-placed (c .before .before .before .before .before .before .before .before .before .before .before .place-call .ensures) refl) (c .before .before .before .before .before .before .put .ensures)) (c .before .before .put2 .ensures))
+    (both-framed (join (callRows (c .before .before .before .before .before .before .before .before .before .before .before .before .before .before .before .before .before .before .args .call))) (c .before .before .before .before .before .before .before .before .before .before .before .before .before .before .before .before .before .before .args .cmd .now) _ 156 _ (c .before .before .before .before .before .before .before .before .before .before .before .place-call .ensures .size) refl _ _ _ _ (c .before .before .before .before .before .before .before .before .before .if3 .left) (wrote-as _ (all-placed (c .before .before .before .before .before .before .before .before .before .before .before .place-call .ensures) refl) (c .before .before .before .before .before .before .put .ensures)) (c .before .before .put2 .ensures))
 
 pub put-command-spec : {M : Type 1} → statement M
 put-command-spec =

@@ -8,7 +8,7 @@ use Rattle.questions.proofs.check_value.Tie as tie
 returns : tie.Need-returns
 unfolding nextOf
 returns c =
-    rw (c .before .before .before .before .before .before .before .if1 .taken, c .before .before .before .before .before .before .if2 .taken, c .before .before .before .before .before .if3 .taken, sym (c .before .before .before .equal16 .ensures) ∙ c .before .before .if4 .taken) (rw (c .before .ask-eb .ensures) at (c .unless .ensures))
+    rw (c .before .before .before .before .before .before .before .if1 .taken, c .before .before .before .before .before .before .if2 .taken, c .before .before .before .before .before .if3 .taken, sym (c .before .before .before .equal16 .ensures) ∙ c .before .before .if4 .taken) (rw (c .before .ask-own-check .ensures) at (c .unless .ensures))
 
 returns-2 : tie.Need-returns-2
 unfolding nextOf
@@ -20,7 +20,7 @@ returns-3 c = rw (c .before .before .before .if1 .taken, c .before .before .if2 
 
 returns-4 : tie.Need-returns-4
 unfolding nextOf
-returns-4 c = rw (c .before .before .if1 .taken, c .before .if2 .left) (c .ask-ea .ensures)
+returns-4 c = rw (c .before .before .if1 .taken, c .before .if2 .left) (c .ask-peer-check .ensures)
 
 returns-5 : tie.Need-returns-5
 unfolding nextOf

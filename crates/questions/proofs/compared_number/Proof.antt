@@ -11,7 +11,7 @@ returns c = rw (c .before .enum-told .given .1) (c .none .ensures)
 
 returns-2 : tie.Need-returns-2
 unfolding nextOf
-returns-2 c = let a = c .before .before .before .before .before .before .before .before .args in rw (compare-other (a .method) (a .state) (a .na) (c .before .before .match .keys2)) (rw (c .before .ask-g2 .ensures) at (c .unless .ensures))
+returns-2 c = let a = c .before .before .before .before .before .before .before .before .args in rw (compare-other (a .method) (a .state) (a .nonce) (c .before .before .match .keys2)) (rw (c .before .ask-g2 .ensures) at (c .unless .ensures))
 
 pub compared-number-spec : {M : Type 1} → statement M
 compared-number-spec =
