@@ -18,7 +18,7 @@ use wrapper::Begun;
 use wrapper::Start;
 
 // Where a command begins in the payload of its record.
-const COMMAND: usize = 140;
+const COMMAND: usize = 156;
 
 // Where the walk stands: which record is next and where it begins, the machine, and the answer of the latest call. A start that began
 // counts as taken.

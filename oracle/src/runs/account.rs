@@ -11,7 +11,7 @@ use crate::IoCapabilities;
 
 pub struct Account {
     opening: Opening,
-    local: PublicKey,
+    own: PublicKey,
     /// The six octets of the accepted request.
     features: [u8; 6],
     peer: PublicKey,
@@ -27,7 +27,7 @@ impl Account {
     pub fn new(opening: &Opening) -> Self {
         Self {
             opening: opening.clone(),
-            local: opening.secret.public_key(),
+            own: opening.secret.public_key(),
             features: [3, 0, 0, 16, 0, 0],
             peer: PublicKey::from_bytes(&[0; 64]),
             dh: None,
@@ -53,12 +53,12 @@ impl Account {
 
     /// f4(our x, peer x, nonce, z).
     fn our_confirm(&self, nonce: u128, z: u8) -> u128 {
-        Nonce(nonce).f4(self.local.x(), self.peer.x(), z).0
+        Nonce(nonce).f4(self.own.x(), self.peer.x(), z).0
     }
 
     /// f4(peer x, our x, nonce, z): what the pad's confirm has to be.
     pub fn peer_confirm(&self, nonce: u128, z: u8) -> u128 {
-        Nonce(nonce).f4(self.peer.x(), self.local.x(), z).0
+        Nonce(nonce).f4(self.peer.x(), self.own.x(), z).0
     }
 
     /// f4(peer x, peer x, random, 0): the confirm beside the pad's out-of-band random.
@@ -67,13 +67,13 @@ impl Account {
     }
 
     fn keys(&self) -> Option<(MacKey, u128)> {
-        let (peer, local) = (self.opening.peer, self.opening.local);
+        let (peer, own) = (self.opening.peer, self.opening.own);
         let dh = self.dh.as_ref()?;
-        let (mac_key, ltk) = dh.f5(Nonce(self.peer_nonce), Nonce(self.our_nonce), peer, local);
+        let (mac_key, ltk) = dh.f5(Nonce(self.peer_nonce), Nonce(self.our_nonce), peer, own);
         Some((mac_key, ltk.0))
     }
 
-    /// The first f6: what the pad's check has to be.
+    /// The peer's f6: what the pad's check has to be.
     pub fn peer_check(&self) -> Option<u128> {
         let (mac_key, _) = self.keys()?;
         let [io, oob, auth, ..] = self.features;
@@ -83,12 +83,12 @@ impl Account {
             self.our_secret,
             IoCap::new(auth, oob == 1, io),
             self.opening.peer,
-            self.opening.local,
+            self.opening.own,
         );
         Some(check.0)
     }
 
-    /// The second f6, with the IO triple of our response.
+    /// Our f6, with the IO triple of our response.
     fn our_check(&self, mac_key: &MacKey) -> u128 {
         let opening = &self.opening;
         let mitm = opening.io != IoCapabilities::NoInputNoOutput;
@@ -98,7 +98,7 @@ impl Account {
             Nonce(self.peer_nonce),
             self.peer_secret,
             IoCap::new(auth, opening.oob, opening.io.into()),
-            opening.local,
+            opening.own,
             opening.peer,
         );
         check.0
@@ -107,7 +107,7 @@ impl Account {
     /// Whether the crate takes the pad's key, and the DH key's octets.
     fn agree(&self, key: &[u8]) -> Option<DHKey> {
         let key = PublicKey::from_bytes(key);
-        self.opening.secret.dh_key(key, &self.local)
+        self.opening.secret.dh_key(key, &self.own)
     }
 
     /// Whether this call shows a drawn passkey: the public key is good, the passkey is shown here and none is configured.
@@ -165,10 +165,10 @@ impl Account {
             ("WaitingPublicKey", 0x0c, 64) => self.answer_key(seen, input, body, supplied),
             ("WaitingNumericComparisonRandom", 0x04, 16) => self.answer_g2(value, seen, supplied),
             ("WaitingPassKeyEntryConfirm", 0x03, 16) => {
-                supplied.f4 = self.our_confirm(supplied.nonce, z(self.our_secret, seen));
+                supplied.own_confirm = self.our_confirm(supplied.nonce, z(self.our_secret, seen));
             }
             ("WaitingPassKeyEntryRandom", 0x04, 16) => {
-                supplied.f4 = self.peer_confirm(value, z(self.our_secret, seen));
+                supplied.peer_confirm = self.peer_confirm(value, z(self.our_secret, seen));
             }
             ("WaitingDHKeyEa", 0x0d, _) => self.answer_check(body, supplied),
             _ => {}
@@ -179,7 +179,7 @@ impl Account {
         match (seen.phase.name, input) {
             ("WaitingOobData", Input::OobDataReceived(oob)) => {
                 if (oob.peer, oob.confirm) != (0, 0) {
-                    supplied.f4 = self.oob_confirm(oob.peer);
+                    supplied.peer_confirm = self.oob_confirm(oob.peer);
                 }
             }
             ("WaitingNumericComparisonResult", Input::PassKeyConfirm) => {
@@ -189,7 +189,8 @@ impl Account {
             }
             ("WaitingPassKeyInput", Input::PassKeyInput(passkey)) => {
                 if seen.phase.held == Some(true) {
-                    supplied.f4 = self.our_confirm(supplied.nonce, z(u128::from(*passkey), seen));
+                    let z = z(u128::from(*passkey), seen);
+                    supplied.own_confirm = self.our_confirm(supplied.nonce, z);
                 }
             }
             _ => {}
@@ -203,7 +204,7 @@ impl Account {
         }
         if self.reads_nonce(seen, input) {
             let (nonce, peer) = (Nonce(supplied.nonce), PublicKey::from_bytes(key));
-            supplied.f4 = nonce.f4(self.local.x(), peer.x(), 0).0;
+            supplied.own_confirm = nonce.f4(self.own.x(), peer.x(), 0).0;
         }
     }
 
@@ -211,21 +212,21 @@ impl Account {
         if seen.method != PairingMethod::JustWorks {
             supplied.g2 = g2_word(
                 self.peer.x(),
-                self.local.x(),
+                self.own.x(),
                 Nonce(peer_nonce),
                 Nonce(self.our_nonce),
             );
         }
     }
 
-    /// The second f6 is read only after the first was met.
+    /// Our f6 is read only after the peer's was met.
     fn answer_check(&self, check: &[u8], supplied: &mut Supplied) {
-        if let (Some((mac_key, ltk)), Some(ea)) = (self.keys(), self.peer_check()) {
+        if let (Some((mac_key, ltk)), Some(right)) = (self.keys(), self.peer_check()) {
             supplied.mac_key = key_octets(mac_key);
             supplied.ltk = ltk;
-            supplied.ea = ea;
-            if check == ea.to_le_bytes() {
-                supplied.eb = self.our_check(&mac_key);
+            supplied.peer_check = right;
+            if check == right.to_le_bytes() {
+                supplied.own_check = self.our_check(&mac_key);
             }
         }
     }
@@ -278,7 +279,7 @@ impl Account {
             }
             ("WaitingOobData", Input::OobDataReceived(oob)) => {
                 // Part H 2.3.5.6.4: a pad without our data reckons with zero.
-                self.our_secret = if self.features[1] == 1 { oob.local } else { 0 };
+                self.our_secret = if self.features[1] == 1 { oob.own } else { 0 };
                 self.peer_secret = oob.peer;
             }
             _ => {}
@@ -315,18 +316,21 @@ fn key_octets(key: MacKey) -> u128 {
     u128::from_be_bytes(unsafe { std::mem::transmute::<MacKey, [u8; 16]>(key) })
 }
 
-/// Values that no answer fills.
+/// Values that no answer fills. One throw gives both confirms: each bit of the one is turned in the other.
 pub fn noise(dice: &mut Dice) -> Supplied {
-    Supplied {
+    let mut supplied = Supplied {
         nonce: dice.big(),
         passkey: dice.word() as u32,
         valid: dice.chance(500),
         dh_key: dice.bytes(),
-        f4: dice.big(),
+        own_confirm: dice.big(),
+        peer_confirm: 0,
         g2: dice.word() as u32,
         mac_key: dice.big(),
         ltk: dice.big(),
-        ea: dice.big(),
-        eb: dice.big(),
-    }
+        peer_check: dice.big(),
+        own_check: dice.big(),
+    };
+    supplied.peer_confirm = !supplied.own_confirm;
+    supplied
 }

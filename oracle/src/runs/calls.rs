@@ -18,7 +18,7 @@ pub struct Opening {
     /// Public x, public y and the shared secret, as the stand-in for P-256 draws them.
     pub secret_bytes: [u8; 96],
     pub irk: u128,
-    pub local: Address,
+    pub own: Address,
     pub identity: Address,
     pub peer: Address,
     pub known: bool,
@@ -52,7 +52,7 @@ impl Opening {
         body.extend(self.passkey.unwrap_or(0).to_le_bytes());
         body.extend(&self.secret_bytes[..64]);
         body.extend(self.irk.to_be_bytes());
-        for address in [self.local, self.identity, self.peer] {
+        for address in [self.own, self.identity, self.peer] {
             body.extend(address.to_bytes());
         }
         body.push(self.known.into());
@@ -82,29 +82,30 @@ pub enum Input {
 
 #[derive(Clone, Copy, Debug, PartialEq)]
 pub struct Oob {
-    pub local: u128,
+    pub own: u128,
     pub peer: u128,
     pub confirm: u128,
 }
 
-/// Drawn values and the answers to all six questions.
+/// Drawn values and the answers to all seven questions.
 #[derive(Clone)]
 pub struct Supplied {
     pub nonce: u128,
     pub passkey: u32,
     pub valid: bool,
     pub dh_key: [u8; 32],
-    pub f4: u128,
+    pub own_confirm: u128,
+    pub peer_confirm: u128,
     pub g2: u32,
     pub mac_key: u128,
     pub ltk: u128,
-    pub ea: u128,
-    pub eb: u128,
+    pub peer_check: u128,
+    pub own_check: u128,
 }
 
 impl Supplied {
-    /// All six answers are given.
-    const GIVEN: u8 = 0x3f;
+    /// All seven answers are given.
+    const GIVEN: u8 = 0x7f;
 
     fn bytes(&self) -> Vec<u8> {
         let mut body = vec![Self::GIVEN];
@@ -112,9 +113,11 @@ impl Supplied {
         body.extend(self.passkey.to_le_bytes());
         body.push(self.valid.into());
         body.extend(self.dh_key);
-        body.extend(self.f4.to_be_bytes());
+        for value in [self.own_confirm, self.peer_confirm] {
+            body.extend(value.to_be_bytes());
+        }
         body.extend(self.g2.to_le_bytes());
-        for value in [self.mac_key, self.ltk, self.ea, self.eb] {
+        for value in [self.mac_key, self.ltk, self.peer_check, self.own_check] {
             body.extend(value.to_be_bytes());
         }
         body
@@ -158,7 +161,7 @@ impl Call {
             Input::OobDataReceived(oob) => oob,
             _ => self.beside,
         };
-        for value in [oob.local, oob.peer, oob.confirm] {
+        for value in [oob.own, oob.peer, oob.confirm] {
             body.extend(value.to_be_bytes());
         }
         record(3, body)

@@ -93,9 +93,9 @@ impl Coverage {
                 writeln!(out, "met {state} {input} {count}")?;
             }
         }
-        for (local, peer, mitm, peer_oob, oob) in &self.combinations {
+        for (own, peer, mitm, peer_oob, oob) in &self.combinations {
             let [mitm, peer_oob, oob] = [*mitm, *peer_oob, *oob].map(u8::from);
-            writeln!(out, "combination {local},{peer},{mitm},{peer_oob},{oob}")?;
+            writeln!(out, "combination {own},{peer},{mitm},{peer_oob},{oob}")?;
         }
         for (end, count) in &self.ends {
             writeln!(out, "end {end} {count}")?;

@@ -127,15 +127,15 @@ fn shape_for(state: &str, dice: &mut Dice) -> Shape {
     }
 }
 
-/// Local IO, peer IO, local OOB, peer OOB, peer MITM.
+/// Our IO, peer IO, our OOB, peer OOB, peer MITM.
 pub type Sides = (u8, u8, bool, bool, bool);
 
 pub fn sides(shape: Shape, dice: &mut Dice) -> Sides {
-    let (local, peer) = (dice.below(5) as u8, dice.below(5) as u8);
+    let (own, peer) = (dice.below(5) as u8, dice.below(5) as u8);
     let mitm = dice.chance(600);
     let both = [dice.pick(&[1, 4]), dice.pick(&[1, 4])];
     match shape {
-        Shape::Any => (local, peer, dice.chance(80), dice.chance(80), mitm),
+        Shape::Any => (own, peer, dice.chance(80), dice.chance(80), mitm),
         Shape::JustWorks => (3, peer, false, false, mitm),
         Shape::NumericComparison => (both[0], both[1], false, false, mitm),
         Shape::WeDisplay => (dice.pick(&[0, 1, 4]), 2, false, false, mitm),
@@ -143,7 +143,7 @@ pub fn sides(shape: Shape, dice: &mut Dice) -> Sides {
         Shape::BothInput => (2, 2, false, false, mitm),
         Shape::OutOfBand => {
             let flags = dice.pick(&[(true, true), (true, false), (false, true)]);
-            (local, peer, flags.0, flags.1, mitm)
+            (own, peer, flags.0, flags.1, mitm)
         }
     }
 }
@@ -162,7 +162,7 @@ pub fn opening(plan: &Plan, sides: Sides, dice: &mut Dice) -> Opening {
         secret: SecretKey::new(&mut Script::new(secret_bytes.to_vec())),
         secret_bytes,
         irk: if dice.chance(300) { 0 } else { dice.big() },
-        local: address(dice),
+        own: address(dice),
         identity: address(dice),
         peer,
         known: dice.chance(400),

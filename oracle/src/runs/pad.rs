@@ -161,7 +161,7 @@ impl Pad {
             }
             Input::OobDataReceived(mut oob) => {
                 match dice.below(4) {
-                    0 => oob.local ^= bit,
+                    0 => oob.own ^= bit,
                     1 => oob.peer ^= bit,
                     2 => oob.confirm ^= bit,
                     _ => oob.peer = 0,
@@ -216,17 +216,17 @@ impl Pad {
 
 /// Random out-of-band values with the confirm that belongs to them; sometimes the pad's are not there.
 fn oob_values(account: &Account, dice: &mut Dice) -> Oob {
-    let local = dice.big();
+    let own = dice.big();
     if dice.chance(200) {
         return Oob {
-            local,
+            own,
             peer: 0,
             confirm: 0,
         };
     }
     let peer = if dice.chance(50) { 0 } else { dice.big() };
     Oob {
-        local,
+        own,
         peer,
         confirm: account.oob_confirm(peer),
     }
@@ -307,7 +307,7 @@ fn any(dice: &mut Dice) -> Input {
 
 pub fn any_oob(dice: &mut Dice) -> Oob {
     Oob {
-        local: dice.big(),
+        own: dice.big(),
         peer: dice.big(),
         confirm: dice.big(),
     }

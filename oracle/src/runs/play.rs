@@ -324,7 +324,7 @@ impl<'a> Run<'a> {
             return Parts::bare("the-crate-stops");
         };
         self.seen = self.twin.seen();
-        let value = if sends_nonce { 0 } else { supplied.f4 };
+        let value = if sends_nonce { 0 } else { supplied.own_confirm };
         if let Some(frame) = outcome.frames.last_mut() {
             frame.truncate(5);
             frame.extend(value.to_le_bytes());
@@ -334,9 +334,9 @@ impl<'a> Run<'a> {
 
     fn count_features(&mut self, before: &Seen, input: &Input) {
         if let ("WaitingPairingRequest", Input::Command(request)) = (before.phase.name, input) {
-            let (local, oob) = (self.opening.io.into(), self.opening.oob);
+            let (own, oob) = (self.opening.io.into(), self.opening.oob);
             let (mitm, peer_oob) = (request[3] & 0x04 != 0, request[2] == 1);
-            let combination = (local, request[1], mitm, peer_oob, oob);
+            let combination = (own, request[1], mitm, peer_oob, oob);
             self.coverage.combinations.insert(combination);
         }
     }

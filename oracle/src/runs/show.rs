@@ -43,21 +43,21 @@ fn record(calls: &mut impl Read) -> Option<(u16, Vec<u8>)> {
 fn describe(kind: u16, body: &[u8]) {
     match (kind, body.len()) {
         (1, _) => println!("setup {}", hex(body)),
-        (2, 140..) => {
-            println!("command {}, outbox {}", hex(&body[140..]), outbox(body));
-            println!("supplied {}", hex(&body[2..140]));
+        (2, 156..) => {
+            println!("command {}, outbox {}", hex(&body[156..]), outbox(body));
+            println!("supplied {}", hex(&body[2..156]));
         }
-        (3, 193) => {
+        (3, 209) => {
             println!(
                 "event {} number {} oob {} {} {}, outbox {}",
-                body[140],
-                u32::from_le_bytes(body[141..145].try_into().unwrap()),
-                hex(&body[145..161]),
+                body[156],
+                u32::from_le_bytes(body[157..161].try_into().unwrap()),
                 hex(&body[161..177]),
-                hex(&body[177..]),
+                hex(&body[177..193]),
+                hex(&body[193..]),
                 outbox(body)
             );
-            println!("supplied {}", hex(&body[2..140]));
+            println!("supplied {}", hex(&body[2..156]));
         }
         _ => println!("kind {kind} {}", hex(body)),
     }

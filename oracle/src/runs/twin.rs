@@ -40,11 +40,11 @@ impl Twin {
     pub fn start(opening: &Opening) -> (Self, Outcome) {
         let mut ops = Ops::new(opening.harness());
         let pairing = if opening.start == 0 {
-            Pairing::new_peripheral(opening.local, opening.peer, opening.io)
+            Pairing::new_peripheral(opening.own, opening.peer, opening.io)
         } else {
             let user = opening.start == 1;
             Pairing::initiate_peripheral::<Pool, _>(
-                opening.local,
+                opening.own,
                 opening.peer,
                 &mut ops,
                 opening.io,
@@ -110,7 +110,7 @@ fn event_of(input: &Input) -> Event {
         Input::PassKeyInput(passkey) => Event::PassKeyInput(*passkey),
         Input::OobDataReceived(oob) => Event::OobDataReceived {
             local: OobData {
-                random: oob.local.to_le_bytes(),
+                random: oob.own.to_le_bytes(),
                 confirm: [0xaa; 16],
             },
             peer: OobData {
