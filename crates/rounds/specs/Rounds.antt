@@ -23,6 +23,6 @@ afterOf r = cond (ltb r 19) (Round (r + 1)) DHKeyCheck
 abbrev pub inRange : ℕ → Bool
 inRange passkey = leb passkey 999999
 
--- Part H 2.3.5.6.5: ra and rb of the check are the passkey, a number of 128 bits
+-- Part H 2.3.5.6.5: our secret and the peer's in the check are the passkey, a number of 128 bits
 abbrev pub secretOf : ℕ → List ℕ
 secretOf passkey = replicate 12 0 ++ (passkey / 2 ^ 24 ∷ passkey / 2 ^ 16 % 256 ∷ passkey / 2 ^ 8 % 256 ∷ passkey % 256 ∷ [])
