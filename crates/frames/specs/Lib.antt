@@ -1,2 +1,3 @@
 -- The definitions of `frames`, file by file.
 pub mod Frames
+pub mod Packets
