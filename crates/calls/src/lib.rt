@@ -18,7 +18,6 @@ pub use setups::put_setup;
 pub use setups::read_setup;
 ghost use mathlib.Core.Path.{_≡_};
 ghost use Rattle.octets.specs.Write.{Wrote};
-ghost use Rattle.protocol.specs.Numbers.{failureNumber, refusalNumber};
 ghost use Rattle.calls.specs.Header.{recordNumber, recordOf, headerOctets, readHeader};
 ghost use Rattle.calls.specs.Answer.{answerOctets, failureOf, refusalOf, takenOf, failedOf, refusedOf, readAnswer};
 
@@ -142,8 +141,8 @@ fn answer_bytes(answer: Answer) -> [u8; 2]
 {
     match answer {
         Answer::Taken => [0, 0],
-        Answer::Failed(failure) => [1, failure_number(failure)],
-        Answer::Refused(refusal) => [2, refusal_number(refusal)],
+        Answer::Failed(failure) => [1, numbers::failure_number(failure)],
+        Answer::Refused(refusal) => [2, numbers::refusal_number(refusal)],
     }
 }
 
@@ -160,7 +159,7 @@ fn failed_of(number: u8) -> ReadAnswer
     ensures { λ r. ⌜ r ≡ failedOf number ⌝ }
 {
     let failure = failure_of(number);
-    if failure_number(failure) == number {
+    if numbers::failure_number(failure) == number {
         return ReadAnswer::Fits(Answer::Failed(failure));
     }
     ReadAnswer::Misfit
@@ -170,7 +169,7 @@ fn refused_of(number: u8) -> ReadAnswer
     ensures { λ r. ⌜ r ≡ refusedOf number ⌝ }
 {
     let refusal = refusal_of(number);
-    if refusal_number(refusal) == number {
+    if numbers::refusal_number(refusal) == number {
         return ReadAnswer::Fits(Answer::Refused(refusal));
     }
     ReadAnswer::Misfit
@@ -222,32 +221,4 @@ fn refusal_of(number: u8) -> Refusal
         return Refusal::OutboxShort;
     }
     Refusal::PasskeyRange
-}
-
-fn failure_number(failure: Failure) -> u8
-    ensures { λ r. ⌜ r ≡ failureNumber failure ⌝ }
-{
-    match failure {
-        Failure::InvalidState => 16,
-        Failure::InvalidValue => 17,
-        Failure::Timeout => 18,
-        Failure::PasskeyEntryFailed => 33,
-        Failure::AuthenticationRequirements => 35,
-        Failure::ConfirmValueFailed => 36,
-        Failure::EncryptionKeySize => 38,
-        Failure::InvalidParameters => 42,
-        Failure::DHKeyCheckFailed => 43,
-        Failure::NumericComparisonFailed => 44,
-        Failure::KeyRejected => 47,
-    }
-}
-
-fn refusal_number(refusal: Refusal) -> u8
-    ensures { λ r. ⌜ r ≡ refusalNumber refusal ⌝ }
-{
-    match refusal {
-        Refusal::Finished => 1,
-        Refusal::OutboxShort => 2,
-        Refusal::PasskeyRange => 3,
-    }
 }

@@ -11,25 +11,26 @@ use protocol::Failure;
 use protocol::MaybeBond;
 use protocol::Supplied;
 ghost use mathlib.Core.Path.{_≡_};
-ghost use Rattle.machine.specs.Outcome.{Met};
-ghost use Rattle.machine.specs.Check.{newBond, checking, checkOf};
+ghost use mathlib.Core.Bool.{true};
+ghost use Rattle.machine.specs.Dhkey.{newBond, checking, onCheck};
+ghost use Rattle.machine.specs.Responder.{Follows};
 
 // A command in WaitingDHKeyEa. Any wrong length fails as a wrong check does.
 pub fn check(state: State, code: u8, payload: &[u8], supplied: Supplied, out: &mut [u8]) -> Step
-    ensures { λ r. ⌜ Met (checkOf state code (now (payload .entry)) supplied) r (now (out .entry)) (now (out .exit)) ⌝ }
+    ensures { λ r. ⌜ Follows state supplied (onCheck state code (now (payload .entry))) r (now (out .entry)) (now (out .exit)) ⌝ }
 {
-    if code != 13 {
-        return outcome::failed(state, Failure::InvalidState);
+    if code != frames::DHKEY_CHECK {
+        return states::failed(state, Failure::InvalidState);
     }
-    if payload.len() != 16 {
-        return outcome::failed(state, Failure::DHKeyCheckFailed);
+    if payloads::is_value(payload) {
+        return check_value(state, octets::reversed16(payload), supplied, out);
     }
-    check_value(state, octets::reversed16(payload), supplied, out)
+    states::failed(state, Failure::DHKeyCheckFailed)
 }
 
 // The peer's check against the right one. Ours goes out, and the link is to be encrypted with the link key that came of the exchange.
 pub fn check_value(state: State, value: [u8; 16], supplied: Supplied, out: &mut [u8]) -> Step
-    ensures { λ r. ⌜ Met (checking state value supplied) r (now (out .entry)) (now (out .exit)) ⌝ }
+    ensures { λ r. ⌜ Follows state supplied (checking state true value) r (now (out .entry)) (now (out .exit)) ⌝ }
 {
     let right = supplied.peercheck;
     if octets::equal16(value, right) {
@@ -41,7 +42,7 @@ pub fn check_value(state: State, value: [u8; 16], supplied: Supplied, out: &mut 
         let kept = MaybeBond { there: true, bond };
         next.bond = kept;
         return Step {
-            state: next,
+            progress: next,
             sent,
             first: ConnectionEvent::Nothing,
             second: ConnectionEvent::Nothing,
@@ -52,7 +53,7 @@ pub fn check_value(state: State, value: [u8; 16], supplied: Supplied, out: &mut 
             answer: Answer::Taken,
         };
     }
-    outcome::failed(state, Failure::DHKeyCheckFailed)
+    states::failed(state, Failure::DHKeyCheckFailed)
 }
 
 // The bond of this pairing: link key, the method's level, the peer's address, no IRK yet.

@@ -10,9 +10,14 @@ use protocol::Failure;
 use protocol::Refusal;
 use protocol::Secrets;
 use protocol::Supplied;
-ghost use Rattle.machine.specs.Outcome.{Met, to, need, goes};
-ghost use Rattle.machine.specs.Secrets.{fresh};
-ghost use Rattle.machine.specs.Exchange.{ourKey, comparing, showing, shown, begins, keyOf};
+use protocol::Verdict;
+ghost use Prim.Native.Nat.{ℕ};
+ghost use mathlib.Core.List.{List, [], _∷_};
+ghost use Rattle.protocol.specs.Plan.{ends, goes};
+ghost use Rattle.protocol.specs.Parts.{shown};
+ghost use Rattle.machine.specs.State.{to};
+ghost use Rattle.machine.specs.Exchange.{ownKey, comparing, showing, begins, keyed, onKey};
+ghost use Rattle.machine.specs.Responder.{Follows};
 
 // A command in WaitingPublicKey. Our key leaves only where the peer's is known to be valid.
 pub fn public_key(
@@ -22,20 +27,18 @@ pub fn public_key(
     supplied: Supplied,
     out: &mut [u8],
 ) -> Step
-    ensures { λ r. ⌜ Met (keyOf state code (now (payload .entry)) supplied) r (now (out .entry)) (now (out .exit)) ⌝ }
+    ensures { λ r. ⌜ Follows state supplied (onKey state code (now (payload .entry))) r (now (out .entry)) (now (out .exit)) ⌝ }
 {
-    if code != 12 {
-        return outcome::failed(state, Failure::InvalidState);
+    let verdict = payloads::public_key(code, payload);
+    match verdict {
+        Verdict::Wrong(failure) => states::failed(state, failure),
+        Verdict::Awaited => keyed(state, payloads::peer_x(payload), supplied, out),
     }
-    if payload.len() != 64 {
-        return outcome::failed(state, Failure::InvalidParameters);
-    }
-    keyed(state, points::peer_x(payload), supplied, out)
 }
 
 // The peer's key by its x, and what was supplied for it: the DHKey, or that there is none.
 fn keyed(state: State, x: [u8; 32], supplied: Supplied, out: &mut [u8]) -> Step
-    ensures { λ r. ⌜ Met (need state (supplied .dhvalid) Failure.DHKeyCheckFailed (begins (state .method) state (fresh x (supplied .dhkey)) supplied)) r (now (out .entry)) (now (out .exit)) ⌝ }
+    ensures { λ r. ⌜ ((y : List ℕ) → Follows state supplied (keyed state x y) r (now (out .entry)) (now (out .exit))) ⌝ }
 {
     if supplied.dhvalid {
         let dhkey = supplied.dhkey;
@@ -48,7 +51,7 @@ fn keyed(state: State, x: [u8; 32], supplied: Supplied, out: &mut [u8]) -> Step
             out,
         );
     }
-    outcome::failed(state, Failure::DHKeyCheckFailed)
+    states::failed(state, Failure::DHKeyCheckFailed)
 }
 
 // The method's first move.
@@ -59,7 +62,7 @@ fn begin(
     supplied: Supplied,
     out: &mut [u8],
 ) -> Step
-    ensures { λ r. ⌜ Met (begins method state secrets supplied) r (now (out .entry)) (now (out .exit)) ⌝ }
+    ensures { λ r. ⌜ Follows state supplied (begins method state secrets) r (now (out .entry)) (now (out .exit)) ⌝ }
 {
     match method {
         PairingMethod::JustWorks => compare(state, secrets, supplied, out),
@@ -80,20 +83,20 @@ fn begin(
 
 // Passkey entry: the passkey is shown here, or typed here. What the peer does is not asked.
 fn enter(
-    theirs: PassKeyEntryAction,
-    ours: PassKeyEntryAction,
+    peer: PassKeyEntryAction,
+    own: PassKeyEntryAction,
     state: State,
     secrets: Secrets,
     supplied: Supplied,
     out: &mut [u8],
 ) -> Step
-    ensures { λ r. ⌜ Met (begins (PairingMethod.PassKeyEntry theirs ours) state secrets supplied) r (now (out .entry)) (now (out .exit)) ⌝ }
+    ensures { λ r. ⌜ Follows state supplied (begins (PairingMethod.PassKeyEntry peer own) state secrets) r (now (out .entry)) (now (out .exit)) ⌝ }
 {
-    match ours {
+    match own {
         PassKeyEntryAction::Display => {
             let setup = state.setup;
             let configured = setup.passkey;
-            show(configured, state, secrets, supplied.passkey, out)
+            show(configured, state, secrets, supplied, out)
         }
         PassKeyEntryAction::Input => send_key(
             state,
@@ -105,9 +108,9 @@ fn enter(
     }
 }
 
-// Just Works and numeric comparison: our nonce is drawn, and our confirm goes behind our key.
+// Just Works and numeric comparison: our nonce is drawn, and our confirm goes after our key.
 fn compare(state: State, secrets: Secrets, supplied: Supplied, out: &mut [u8]) -> Step
-    ensures { λ r. ⌜ Met (comparing state secrets supplied) r (now (out .entry)) (now (out .exit)) ⌝ }
+    ensures { λ r. ⌜ Follows state supplied (comparing state secrets) r (now (out .entry)) (now (out .exit)) ⌝ }
 {
     let setup = state.setup;
     let x = setup.keyx;
@@ -117,7 +120,7 @@ fn compare(state: State, secrets: Secrets, supplied: Supplied, out: &mut [u8]) -
     let sent = frames::public_key_confirm(out, x, y, confirm);
     let mut drawn = secrets;
     drawn.ownnonce = nonce;
-    outcome::goes(
+    states::goes(
         state,
         Phase::WaitingNumericComparisonRandom,
         drawn,
@@ -127,22 +130,29 @@ fn compare(state: State, secrets: Secrets, supplied: Supplied, out: &mut [u8]) -
 }
 
 // The passkey is shown here: the configured one, or a drawn one in range.
-fn show(configured: Configured, state: State, secrets: Secrets, drawn: u32, out: &mut [u8]) -> Step
-    ensures { λ r. ⌜ Met (shown configured state secrets drawn) r (now (out .entry)) (now (out .exit)) ⌝ }
+fn show(
+    configured: Configured,
+    state: State,
+    secrets: Secrets,
+    supplied: Supplied,
+    out: &mut [u8],
+) -> Step
+    ensures { λ r. ⌜ Follows state supplied (shown configured λ p. ends (showing state secrets p)) r (now (out .entry)) (now (out .exit)) ⌝ }
 {
+    let drawn = supplied.passkey;
     match configured {
         Configured::Nothing => {
             if rounds::in_range(drawn) {
                 return show_passkey(state, secrets, drawn, out);
             }
-            outcome::refused(state, Refusal::PasskeyRange)
+            states::refused(state, Refusal::PasskeyRange)
         }
         Configured::Passkey(passkey) => show_passkey(state, secrets, passkey, out),
     }
 }
 
 fn show_passkey(state: State, secrets: Secrets, passkey: u32, out: &mut [u8]) -> Step
-    ensures { λ r. ⌜ Met (showing state secrets passkey) r (now (out .entry)) (now (out .exit)) ⌝ }
+    ensures { λ r. ⌜ ((a : Supplied) → Follows state a (ends (showing state secrets passkey)) r (now (out .entry)) (now (out .exit))) ⌝ }
 {
     let keyed = states::with_passkey(secrets, passkey);
     send_key(
@@ -162,11 +172,11 @@ fn send_key(
     event: ConnectionEvent,
     out: &mut [u8],
 ) -> Step
-    ensures { λ r. ⌜ Met (goes (to state phase secrets) (ourKey state) event) r (now (out .entry)) (now (out .exit)) ⌝ }
+    ensures { λ r. ⌜ ((a : Supplied) → Follows state a (ends (goes (to state phase secrets) (ownKey state ∷ []) event)) r (now (out .entry)) (now (out .exit))) ⌝ }
 {
     let setup = state.setup;
     let x = setup.keyx;
     let y = setup.keyy;
     let sent = frames::public_key(out, x, y);
-    outcome::goes(state, phase, secrets, sent, event)
+    states::goes(state, phase, secrets, sent, event)
 }

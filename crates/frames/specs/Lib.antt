@@ -1,3 +1,2 @@
 -- The definitions of `frames`, file by file.
-pub mod Frames
 pub mod Packets

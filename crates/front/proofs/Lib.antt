@@ -1,4 +1,3 @@
 -- What is shown of `front` beside the proofs of its functions, file by file.
 mod Other
-pub mod Front
 pub mod Unique

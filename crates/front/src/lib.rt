@@ -1,30 +1,27 @@
-// The front of a call, where refusals are tested before any step, and behind it the step of each phase.
+// The front of a call, where refusals are tested before any step, and after it the step of each phase.
 use machine::Phase;
 use machine::State;
 use machine::Step;
 use protocol::Event;
 use protocol::Failure;
+use protocol::Gate;
 use protocol::OobData;
 use protocol::Refusal;
 use protocol::Supplied;
+ghost use mathlib.Core.Path.{_≡_};
 ghost use lib.ListN.{length};
-ghost use Rattle.machine.specs.Outcome.{Met};
-ghost use Rattle.machine.specs.Step.{command, event, onCommand, onEvent, taking, step};
-ghost use Rattle.front.specs.Calls.{commandCall, eventCall, Admits};
-
-// Whether a call is let in, or why it is refused.
-pub enum Gate {
-    Open,
-    Shut(Refusal),
-}
+ghost use lib.Dec.{ltb};
+ghost use Rattle.protocol.specs.Role.{command, event, enough, gateOf, taking, plan};
+ghost use Rattle.machine.specs.State.{finishedPhase};
+ghost use Rattle.machine.specs.Responder.{onCommand, onEvent, responder, Follows};
 
 // A command: the refusals, and then the step of the phase.
 pub fn on_command(state: State, cmd: &[u8], supplied: Supplied, out: &mut [u8]) -> Step
-    ensures { λ r. ⌜ Met (step state (commandCall (now (cmd .entry)) supplied (length (now (out .entry))))) r (now (out .entry)) (now (out .exit)) ⌝ }
+    ensures { λ r. ⌜ Follows state supplied (plan responder state (command (now (cmd .entry))) (length (now (out .entry)))) r (now (out .entry)) (now (out .exit)) ⌝ }
 {
     let entry = admit(state, out.len(), true);
     match entry {
-        Gate::Shut(refusal) => outcome::refused(state, refusal),
+        Gate::Shut(refusal) => states::refused(state, refusal),
         Gate::Open => take_command(state, cmd, supplied, out),
     }
 }
@@ -37,23 +34,23 @@ pub fn on_event(
     supplied: Supplied,
     out: &mut [u8],
 ) -> Step
-    ensures { λ r. ⌜ Met (step state (eventCall came values supplied (length (now (out .entry))))) r (now (out .entry)) (now (out .exit)) ⌝ }
+    ensures { λ r. ⌜ Follows state supplied (plan responder state (event came values) (length (now (out .entry)))) r (now (out .entry)) (now (out .exit)) ⌝ }
 {
     let entry = admit(state, out.len(), states::in_range(came, values));
     match entry {
-        Gate::Shut(refusal) => outcome::refused(state, refusal),
+        Gate::Shut(refusal) => states::refused(state, refusal),
         Gate::Open => take_event(state, came, values, supplied, out),
     }
 }
 
 // R1, R2 and R3, in this order; `ranged` says whether an event's passkey is in range.
 fn admit(state: State, room: usize, ranged: bool) -> Gate
-    ensures { λ r. ⌜ Admits state room ranged r ⌝ }
+    ensures { λ r. ⌜ r ≡ gateOf (finishedPhase (state .phase)) (ltb room enough) ranged ⌝ }
 {
     if states::finished(state) {
         return Gate::Shut(Refusal::Finished);
     }
-    if room < 90 {
+    if room < protocol::ENOUGH {
         return Gate::Shut(Refusal::OutboxShort);
     }
     if ranged {
@@ -64,10 +61,10 @@ fn admit(state: State, room: usize, ranged: bool) -> Gate
 
 // A command that is taken: an empty one fails.
 fn take_command(state: State, cmd: &[u8], supplied: Supplied, out: &mut [u8]) -> Step
-    ensures { λ r. ⌜ Met (taking state (command (now (cmd .entry))) supplied) r (now (out .entry)) (now (out .exit)) ⌝ }
+    ensures { λ r. ⌜ Follows state supplied (taking responder state (command (now (cmd .entry)))) r (now (out .entry)) (now (out .exit)) ⌝ }
 {
     if cmd.len() == 0 {
-        return outcome::failed(state, Failure::InvalidParameters);
+        return states::failed(state, Failure::InvalidParameters);
     }
     let phase = state.phase;
     let code = cmd[0];
@@ -82,7 +79,7 @@ fn take_event(
     supplied: Supplied,
     out: &mut [u8],
 ) -> Step
-    ensures { λ r. ⌜ Met (taking state (event came values) supplied) r (now (out .entry)) (now (out .exit)) ⌝ }
+    ensures { λ r. ⌜ Follows state supplied (taking responder state (event came values)) r (now (out .entry)) (now (out .exit)) ⌝ }
 {
     let phase = state.phase;
     by_event(phase, state, came, values, supplied, out)
@@ -96,7 +93,7 @@ fn by_command(
     supplied: Supplied,
     out: &mut [u8],
 ) -> Step
-    ensures { λ r. ⌜ Met (onCommand phase state code (now (payload .entry)) supplied) r (now (out .entry)) (now (out .exit)) ⌝ }
+    ensures { λ r. ⌜ Follows state supplied (onCommand phase state code (now (payload .entry))) r (now (out .entry)) (now (out .exit)) ⌝ }
 {
     match phase {
         Phase::WaitingPairingRequest => request::request(state, code, payload, out),
@@ -126,14 +123,14 @@ fn by_command(
             supplied,
             out,
         ),
-        Phase::WaitingOobData => outcome::failed(state, Failure::InvalidState),
+        Phase::WaitingOobData => states::failed(state, Failure::InvalidState),
         Phase::WaitingOobRandom => oob::oob_random(state, code, payload, supplied, out),
         Phase::WaitingDHKeyEa => dhkey::check(state, code, payload, supplied, out),
-        Phase::WaitingLinkEncrypted => outcome::failed(state, Failure::InvalidState),
+        Phase::WaitingLinkEncrypted => states::failed(state, Failure::InvalidState),
         Phase::WaitingIdentitityInformation => keys::identity_information(state, code, payload),
         Phase::WaitingIdentitityAddressInformation => keys::identity_address(state, code, payload),
-        Phase::Success => outcome::refused(state, Refusal::Finished),
-        Phase::Error(_failure) => outcome::refused(state, Refusal::Finished),
+        Phase::Success => states::refused(state, Refusal::Finished),
+        Phase::Error(_failure) => states::refused(state, Refusal::Finished),
     }
 }
 
@@ -145,10 +142,10 @@ fn by_event(
     supplied: Supplied,
     out: &mut [u8],
 ) -> Step
-    ensures { λ r. ⌜ Met (onEvent phase state came values supplied) r (now (out .entry)) (now (out .exit)) ⌝ }
+    ensures { λ r. ⌜ Follows state supplied (onEvent phase state came values) r (now (out .entry)) (now (out .exit)) ⌝ }
 {
     match phase {
-        Phase::WaitingPairingRequest => link::bonded_link_event(state, came, out),
+        Phase::WaitingPairingRequest => keys::bonded_link_event(state, came, out),
         Phase::WaitingNumericComparisonResult(held) => numeric::comparison_event(
             state,
             held,
@@ -158,9 +155,9 @@ fn by_event(
         ),
         Phase::WaitingPassKeyInput(held) => passkey::typing_event(state, held, came, supplied, out),
         Phase::WaitingOobData => oob::oob_event(state, came, values, supplied),
-        Phase::WaitingLinkEncrypted => link::encrypted_event(state, came, out),
-        Phase::Success => outcome::refused(state, Refusal::Finished),
-        Phase::Error(_failure) => outcome::refused(state, Refusal::Finished),
-        _ => outcome::failed(state, Failure::InvalidState),
+        Phase::WaitingLinkEncrypted => keys::encrypted_event(state, came, out),
+        Phase::Success => states::refused(state, Refusal::Finished),
+        Phase::Error(_failure) => states::refused(state, Refusal::Finished),
+        _ => states::failed(state, Failure::InvalidState),
     }
 }

@@ -4,19 +4,20 @@ use machine::State;
 use machine::Step;
 use protocol::ConnectionEvent;
 use protocol::Failure;
-ghost use Rattle.machine.specs.Outcome.{Quiet};
-ghost use Rattle.machine.specs.Hold.{holding};
-ghost use Rattle.machine.specs.Passkey.{holdConfirmOf};
-ghost use Rattle.machine.specs.Numeric.{holdCheckOf};
+ghost use Rattle.protocol.specs.declared.Supplied.{Supplied};
+ghost use Rattle.machine.specs.Holding.{holds};
+ghost use Rattle.machine.specs.Passkey.{onEarlyConfirm};
+ghost use Rattle.machine.specs.Numeric.{onEarlyCheck};
+ghost use Rattle.machine.specs.Responder.{Quiet};
 
 // A command in WaitingPassKeyInput: one early confirm is held.
 pub fn confirm(state: State, held: bool, code: u8, payload: &[u8]) -> Step
-    ensures { λ r. ⌜ Quiet (holdConfirmOf state held code (now (payload .entry))) r ⌝ }
+    ensures { λ r. ⌜ ((a : Supplied) → Quiet state a (onEarlyConfirm state held code (now (payload .entry))) r) ⌝ }
 {
     holds(
         state,
         held,
-        3,
+        frames::PAIRING_CONFIRM,
         code,
         payload,
         Phase::WaitingPassKeyInput(true),
@@ -25,33 +26,33 @@ pub fn confirm(state: State, held: bool, code: u8, payload: &[u8]) -> Step
 
 // A command in WaitingNumericComparisonResult: one early DHKey check is held.
 pub fn check(state: State, held: bool, code: u8, payload: &[u8]) -> Step
-    ensures { λ r. ⌜ Quiet (holdCheckOf state held code (now (payload .entry))) r ⌝ }
+    ensures { λ r. ⌜ ((a : Supplied) → Quiet state a (onEarlyCheck state held code (now (payload .entry))) r) ⌝ }
 {
     holds(
         state,
         held,
-        13,
+        frames::DHKEY_CHECK,
         code,
         payload,
         Phase::WaitingNumericComparisonResult(true),
     )
 }
 
-// An early payload is held: one of the awaited code and sixteen octets.
+// An early payload is held: one value of the awaited code.
 fn holds(state: State, held: bool, awaited: u8, code: u8, payload: &[u8], phase: Phase) -> Step
-    ensures { λ r. ⌜ Quiet (holding state held awaited code (now (payload .entry)) phase) r ⌝ }
+    ensures { λ r. ⌜ ((a : Supplied) → Quiet state a (holds state held awaited code (now (payload .entry)) phase) r) ⌝ }
 {
     if code != awaited {
-        return outcome::failed(state, Failure::InvalidState);
+        return states::failed(state, Failure::InvalidState);
     }
     if held {
-        return outcome::failed(state, Failure::InvalidState);
+        return states::failed(state, Failure::InvalidState);
     }
-    if payload.len() != 16 {
-        return outcome::failed(state, Failure::InvalidValue);
+    if payloads::is_value(payload) {
+        let mut secrets = state.secrets;
+        let early = octets::reversed16(payload);
+        secrets.held = early;
+        return states::goes(state, phase, secrets, 0, ConnectionEvent::Nothing);
     }
-    let mut secrets = state.secrets;
-    let early = octets::reversed16(payload);
-    secrets.held = early;
-    outcome::goes(state, phase, secrets, 0, ConnectionEvent::Nothing)
+    states::failed(state, Failure::InvalidValue)
 }

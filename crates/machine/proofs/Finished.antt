@@ -1,47 +1,30 @@
--- A finished machine stays as it is, a timeout ends any other, and only an encrypted link has a level. Assumes nothing.
+-- A timeout finishes the machine, and only an encrypted link has a level. Assumes nothing.
 use mathlib.Core.Path.{_≡_, refl}
 use mathlib.Core.List.{[], _∷_, map}
-use mathlib.Core.Bool.{Bool, true, false, cond}
+use mathlib.Core.Bool.{true, false, cond}
 use lib.ListN.{replicate}
 use Rattle.method.specs.declared.SecurityLevel.the-variants.{NoEncryption}
+use Rattle.protocol.specs.Role.{timedOut}
 use Rattle.protocol.specs.declared.Failure.the-variants as F
-use Rattle.protocol.specs.declared.Refusal.the-variants as R
+use Rattle.protocol.proofs.Ends.{timeout-ends, timeout-finished, timeout-twice}
 use Rattle.machine.specs.declared.Phase.{Phase}
 use Rattle.machine.specs.declared.Phase.the-variants as P
 use Rattle.machine.specs.declared.State.{State}
-use Rattle.machine.specs.Outcome.{at, refused, finishedPhase}
-use Rattle.machine.specs.Step.{Call, step, timedOut, securityLevel}
-use Rattle.machine.proofs.Refusals.{refusing}
+use Rattle.machine.specs.State.{at, finishedPhase}
+use Rattle.machine.specs.Responder.{responder}
+use Rattle.machine.specs.Level.{securityLevel}
 
-module _ (m : State) where
-  -- whatever the call, it is refused
-  pub stays : finishedPhase (m .phase) ≡ true → (c : Call) → step m c ≡ refused m R.Finished
-  stays h c = refusing m c R.Finished h
+-- Marking a timeout: the machine is finished then, and a second mark changes nothing. (The rest is as in any role)
 
-  -- Marking a timeout
+pub timed-out-finished : (m : State) → finishedPhase (timedOut responder m .phase) ≡ true
+timed-out-finished m = timeout-finished responder m refl
 
-  -- none where the machine is finished
-  pub timeout-stays : finishedPhase (m .phase) ≡ true → timedOut m ≡ m
-  unfolding timedOut
-  timeout-stays h = rw h
+-- Error 18, and nothing else of the state changes
+pub timed-out-error : (m : State) → finishedPhase (m .phase) ≡ false → timedOut responder m ≡ at m (P.Error F.Timeout)
+timed-out-error m u = timeout-ends responder m u
 
-  -- elsewhere it is Error 18, and nothing else changes
-  pub timeout-ends : finishedPhase (m .phase) ≡ false → timedOut m ≡ at m (P.Error F.Timeout)
-  unfolding timedOut
-  timeout-ends h = rw h
-
-  -- so the machine is finished then
-  pub timeout-finished : finishedPhase ((timedOut m) .phase) ≡ true
-  unfolding timedOut
-  timeout-finished = go (finishedPhase (m .phase)) refl
-    where
-      go : (b : Bool) → finishedPhase (m .phase) ≡ b → finishedPhase ((cond b m (at m (P.Error F.Timeout))) .phase) ≡ true
-      go true e = e
-      go false e = refl
-
--- a second mark changes nothing
-pub timeout-twice : (m : State) → timedOut (timedOut m) ≡ timedOut m
-timeout-twice m = timeout-stays (timedOut m) (timeout-finished m)
+pub timed-out-twice : (m : State) → timedOut responder (timedOut responder m) ≡ timedOut responder m
+timed-out-twice m = timeout-twice responder m refl
 
 -- The level
 

@@ -1,21 +1,16 @@
--- The theorems on the machine, file by file.
-pub mod Outcome
+-- What is shown in `machine`, file by file.
 pub mod Ends
+pub mod Kept
 pub mod Refusals
 pub mod Failures
 pub mod Finished
 pub mod Reading
 pub mod Asking
+pub mod Room
 pub mod Samples
-pub mod Calls
-pub mod Walk
+pub mod Awaited
 pub mod Bound
-pub mod Obeys
-pub mod Runs
-pub mod Followed
 pub mod Exact
 pub mod Sent
 pub mod Success
-pub mod Room
-pub mod Demand
 pub mod Witness

@@ -4,14 +4,15 @@ use mathlib.Core.List.{List, _∷_, map, List·Memᴰ, List·Memᴰ·head, List�
 use Rattle.octets.specs.Octets.{flip, zeros, allZero}
 use Rattle.features.specs.Features.{decodeOf}
 use Rattle.method.specs.Method.{methodOf}
-use Rattle.frames.specs.Frames.{frame}
-use Rattle.machine.specs.Outcome.{refused, failing, goes, need, expect}
-use Rattle.machine.specs.Request.{acceptOf, localFeatures}
-use Rattle.machine.specs.Step.{front, step}
+use Rattle.frames.specs.Packets.{frame}
+use Rattle.protocol.specs.Plan.{runs}
+use Rattle.protocol.specs.Parts.{acceptOf}
+use Rattle.protocol.specs.Role.{step}
+use Rattle.machine.specs.Request.{ownFeatures}
 use Rattle.machine.specs.Samples.{Row, made, said, rows}
 
 pub rows-hold : map made rows ≡ map said rows
-unfolding rows step front need expect refused failing goes acceptOf localFeatures decodeOf methodOf frame flip zeros allZero
+unfolding rows step runs acceptOf ownFeatures decodeOf methodOf frame flip zeros allZero
 rows-hold = refl
 
 -- so each of them does

@@ -1,37 +1,33 @@
--- What a failed call leaves, and what it has asked.
-use Prim.Native.Nat.{ℕ}
+-- What a failed call has asked, what may come before its end, and what a call comes to that goes on.
+use Prim.Native.Nat.{ℕ, _≤_}
 use mathlib.Core.Path.{_≡_}
 use mathlib.Core.Logic.{_⊎_}
 use mathlib.Core.List.{List, [], _∷_, map}
 use mathlib.Core.Bool.{Bool, true, false}
-use lib.ListN.{getD}
-use Rattle.protocol.specs.declared.Failure.{Failure}
-use Rattle.protocol.specs.declared.Failure.the-variants as F
+use Rattle.frames.specs.Packets.{requestCode}
+use Rattle.protocol.specs.declared.Action.{Action}
+use Rattle.protocol.specs.declared.ActionKind.{ActionKind}
+use Rattle.protocol.specs.declared.ActionKind.the-variants as K
 use Rattle.protocol.specs.declared.ConnectionEvent.{ConnectionEvent}
 use Rattle.protocol.specs.declared.ConnectionEvent.the-variants as E
+use Rattle.protocol.specs.declared.Failure.{Failure}
+use Rattle.protocol.specs.declared.Failure.the-variants as F
+use Rattle.protocol.specs.declared.Question.{Question}
 use Rattle.protocol.specs.declared.QuestionKind.{QuestionKind}
 use Rattle.protocol.specs.declared.QuestionKind.the-variants as Q
-use Rattle.protocol.specs.declared.Question.{Question}
+use Rattle.protocol.specs.Role.{Input, command, Call, enough}
 use Rattle.machine.specs.declared.Phase.the-variants as P
 use Rattle.machine.specs.declared.State.{State}
-use Rattle.machine.specs.Outcome.{Outcome, at, noAction}
-use Rattle.machine.specs.Step.{Input, command}
+use Rattle.machine.specs.State.{finishedPhase}
+use Rattle.machine.specs.Keys.{wantsBonding, completing, storing}
 
 -- a request while a bond is known: the peer has lost it
 pub data Loses (m : State) : Input → Type 0 where
-  loses : {cmd : List ℕ} → m .phase ≡ P.WaitingPairingRequest → getD cmd 0 0 ≡ 0x01 → m .setup .known .there ≡ true → Loses m (command cmd)
+  loses : {code : ℕ} {body : List ℕ} → m .phase ≡ P.WaitingPairingRequest → code ≡ requestCode → m .setup .known .there ≡ true → Loses m (command (code ∷ body))
 
--- the event that may come first: BondLost, where the bond is lost
-abbrev pub Before : State → Input → ConnectionEvent → Type 0
-Before m i first = (first ≡ E.Nothing) ⊎ ((first ≡ E.BondLost) × Loses m i)
-
--- Error with the number; no octet, no action; PairingFailed last
-pub record Ended (m : State) (i : Input) (f : Failure) (o : Outcome) : Type 0 where
-  pub next : o .next ≡ at m (P.Error f)
-  pub frames : o .frames ≡ []
-  pub action : o .action ≡ noAction
-  pub first : Before m i (o .first)
-  pub second : o .second ≡ E.PairingFailed f
+-- the event that may come first: BondLost, where the bond is lost and the outbox is long enough
+abbrev pub Before : State → Call → ConnectionEvent → Type 0
+Before m c first = (first ≡ E.Nothing) ⊎ ((first ≡ E.BondLost) × (enough ≤ c .room) × Loses m (c .input))
 
 -- the failures that an answer decides: a wrong confirm, an invalid key or a wrong check
 abbrev pub byAnswer : Failure → Bool
@@ -58,3 +54,26 @@ pub data Asked : Failure → List QuestionKind → Type 0 where
 -- the kinds of the questions, in order
 abbrev pub kinds : List Question → List QuestionKind
 kinds qs = map (λ q. q .kind) qs
+
+-- A call that goes on
+
+-- the pairing is complete; the bond is to be stored
+abbrev pub complete : ConnectionEvent → Bool
+complete E.Nothing = false
+complete E.BondLost = false
+complete E.OobRequest = false
+complete (E.PassKeyDisplay p) = false
+complete E.PassKeyInput = false
+complete (E.PassKeyConfirm n) = false
+complete (E.PairingComplete level stored) = true
+complete (E.PairingFailed f) = false
+
+abbrev pub stored : ActionKind → Bool
+stored K.Nothing = false
+stored K.EnableEncryption = false
+stored K.StoreBond = true
+
+-- a call that is taken comes to an unfinished phase, or to Success, which alone completes the pairing
+pub data Onward : State → ConnectionEvent → Action → Type 0 where
+  goes : {s : State} {e : ConnectionEvent} {x : Action} → finishedPhase (s .phase) ≡ false → complete e ≡ false → stored (x .kind) ≡ false → Onward s e x
+  succeeds : {s : State} → s .phase ≡ P.Success → Onward s (completing (s .bond) (wantsBonding s)) (storing (s .bond) (wantsBonding s))

@@ -1,10 +1,10 @@
--- What the frames of a step need of the outbox.
+-- What the packets of a step need of the outbox.
 use mathlib.Core.Path.{_≡_}
 use lib.ListN.{length}
 use Rattle.protocol.specs.declared.Supplied.{Supplied}
 use Rattle.machine.specs.declared.State.{State}
 
--- the arrays that frames are made of have the lengths that the code's types give them
+-- the arrays that packets are made of have the lengths that the code's types give them
 pub record Sized (m : State) (a : Supplied) : Type 0 where
   pub keyx : length (m .setup .keyx) ≡ 32
   pub keyy : length (m .setup .keyy) ≡ 32

@@ -4,117 +4,86 @@ use mathlib.Core.List.{List, [], _∷_, _++_, map}
 use mathlib.Core.Bool.{Bool, true, false}
 use lib.ListN.{replicate}
 use Rattle.octets.specs.Octets.{zeros}
-use Rattle.address.specs.declared.Address.{Address}
-use Rattle.address.specs.declared.AddressKind.the-variants.{Public}
 use Rattle.features.specs.declared.IoCapabilities.{IoCapabilities}
 use Rattle.features.specs.declared.IoCapabilities.the-variants.{DisplayOnly, DisplayYesNo}
+use Rattle.features.specs.declared.PairingFeatures.{PairingFeatures}
 use Rattle.features.specs.declared.UseOutOfBand.{UseOutOfBand}
 use Rattle.features.specs.declared.UseOutOfBand.the-variants.{NotPresent, Present}
-use Rattle.features.specs.declared.PairingFeatures.{PairingFeatures}
 use Rattle.features.specs.Bits.{ourAuthReq}
 use Rattle.rounds.specs.Rounds.{zOf}
 use Rattle.rounds.specs.Samples.{twenty}
 use Rattle.method.specs.declared.Kind.the-variants.{Legacy, SecureConnections}
-use Rattle.method.specs.declared.PassKeyEntryAction.the-variants as W
 use Rattle.method.specs.declared.PairingMethod.{PairingMethod}
 use Rattle.method.specs.declared.PairingMethod.the-variants.{JustWorks, NumericComparison, PassKeyEntry, OutOfBand}
+use Rattle.method.specs.declared.PassKeyEntryAction.the-variants as W
 use Rattle.method.specs.Method.{methodOf}
+use Rattle.frames.specs.Packets.{publicKeyCode, framed, channel}
 use Rattle.protocol.specs.declared.Answer.{Answer}
 use Rattle.protocol.specs.declared.Answer.the-variants as A
-use Rattle.protocol.specs.declared.Failure.the-variants as F
-use Rattle.protocol.specs.declared.Event.the-variants as I
 use Rattle.protocol.specs.declared.Configured.the-variants as C
+use Rattle.protocol.specs.declared.Event.the-variants as I
+use Rattle.protocol.specs.declared.Failure.the-variants as F
 use Rattle.protocol.specs.declared.Setup.{Setup}
 use Rattle.protocol.specs.declared.Supplied.{Supplied}
 use Rattle.protocol.specs.Numbers.{failureNumber, refusalNumber}
+use Rattle.protocol.specs.Plan.{nowhere}
+use Rattle.protocol.specs.Role.{Input, command, event, step}
 use Rattle.machine.specs.declared.Phase.{Phase}
 use Rattle.machine.specs.declared.Phase.the-variants as P
 use Rattle.machine.specs.declared.State.{State}
-use Rattle.machine.specs.Step.{Input, command, event, step}
-use Rattle.machine.specs.Fresh.{freshState, bondless}
+use Rattle.machine.specs.State.{bondless, freshState}
+use Rattle.machine.specs.Responder.{responder}
 
 -- An answer, by the scope's number
 pub data Number : Type 0 where
   taken : Number
-  failure : ℕ → Number
-  refusal : ℕ → Number
+  failure refusal : ℕ → Number
 
-abbrev pub numberOf : Answer → Number
+abbrev numberOf : Answer → Number
 numberOf A.Taken = taken
 numberOf (A.Failed f) = failure (failureNumber f)
 numberOf (A.Refused r) = refusal (refusalNumber r)
 
--- A sample: a call to a machine, a choice of the method, or a passkey
+-- A sample: an input to a machine, with a drawn passkey and the outbox's length; a choice of the method; or a passkey
 pub data Sample : Type 0 where
   call : State → Input → ℕ → ℕ → Sample
   choice : PairingFeatures → PairingFeatures → Sample
   passkey : ℕ → Sample
 
--- what comes of it: the phase, the outbox, the method and the number; the LESC and the legacy method; z of the twenty rounds
+-- what comes of it: the phase, the outbox's octets, the method and the number; the LESC and the legacy method; z of the twenty rounds
 pub data Result : Type 0 where
   came : Phase → List ℕ → PairingMethod → Number → Result
   methods : PairingMethod → PairingMethod → Result
   rounds : List ℕ → Result
 
-pub record Row : Type 0 where
-  pub sample : Sample
-  pub result : Result
-
-abbrev row : Sample → Result → Row
-row s r = record { sample = s; result = r }
+pub data Row : Type 0 where
+  row : Sample → Result → Row
 
 -- what is supplied: DH is valid, a passkey is drawn, and all else is zero
 abbrev supplied : ℕ → Supplied
 supplied drawn =
-    record {
-      nonce = zeros 16;
-      passkey = drawn;
-      dhvalid = true;
-      dhkey = zeros 32;
-      ownconfirm = zeros 16;
-      peerconfirm = zeros 16;
-      g2 = 0;
-      mackey = zeros 16;
-      ltk = zeros 16;
-      peercheck = zeros 16;
-      owncheck = zeros 16;
-    }
+    record { nonce = zeros 16; passkey = drawn; dhvalid = true; dhkey = zeros 32; ownconfirm = zeros 16; peerconfirm = zeros 16; g2 = 0; mackey = zeros 16; ltk = zeros 16; peercheck = zeros 16; owncheck = zeros 16 }
 
--- what a sample comes to
-abbrev pub comes : Sample → Result
+abbrev comes : Sample → Result
 comes (call m i drawn room) =
-    let o = step m (record { input = i; supplied = supplied drawn; room = room }) in
-    came (o .next .phase) (o .frames) (o .next .method) (numberOf (o .answer))
+    let o = step responder m (record { input = i; supplied = supplied drawn; room = room }) in
+    came (o .next .phase) (framed channel (o .packets)) (o .next .method) (numberOf (o .answer))
 comes (choice i r) = methods (methodOf SecureConnections i r) (methodOf Legacy i r)
 comes (passkey p) = rounds (map (zOf p) twenty)
 
+-- what a row's sample comes to, and what the row says
 abbrev pub made : Row → Result
-made r = comes (r .sample)
+made (row s r) = comes s
 
 abbrev pub said : Row → Result
-said r = r .result
+said (row s r) = r
 
 -- The samples' parts
-
-abbrev nowhere : Address
-nowhere = record { kind = Public; octets = zeros 6 }
 
 -- a DisplayOnly, bonding box without OOB data and with an IRK
 abbrev box : Setup
 box =
-    record {
-      io = DisplayOnly;
-      oob = NotPresent;
-      bonding = true;
-      passkey = C.Nothing;
-      keyx = zeros 32;
-      keyy = zeros 32;
-      irk = replicate 16 1;
-      own = nowhere;
-      identity = nowhere;
-      peer = nowhere;
-      known = bondless;
-    }
+    record { io = DisplayOnly; oob = NotPresent; bonding = true; passkey = C.Nothing; keyx = zeros 32; keyy = zeros 32; irk = replicate 16 1; own = nowhere; identity = nowhere; peer = nowhere; known = bondless }
 
 -- it, in a phase and with a method
 abbrev standing : Phase → PairingMethod → State
@@ -122,7 +91,7 @@ standing p w =
     let m = freshState box in
     record { phase = p; setup = m .setup; features = m .features; method = w; secrets = m .secrets; bond = m .bond; peer = m .peer }
 
--- a request to it, fresh, and with 90 octets of outbox
+-- a command to it, fresh, and with 90 octets of outbox
 abbrev asked : List ℕ → Sample
 asked cmd = call (freshState box) (command cmd) 0 90
 
@@ -142,7 +111,7 @@ typed = PassKeyEntry W.Display W.Input
 
 -- a public key to the box, with a method and a drawn passkey
 abbrev keyed : PairingMethod → ℕ → ℕ → Sample
-keyed w drawn room = call (standing P.WaitingPublicKey w) (command (0x0C ∷ replicate 64 0)) drawn room
+keyed w drawn room = call (standing P.WaitingPublicKey w) (command (publicKeyCode ∷ replicate 64 0)) drawn room
 
 -- its public key, of zeros, and its confirm
 abbrev key : List ℕ

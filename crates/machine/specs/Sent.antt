@@ -1,26 +1,28 @@
--- What a call may send: which of our frames is a Pairing Random, and when it leaves.
+-- What a call may send: when a Pairing Random leaves.
 use Prim.Native.Nat.{ℕ}
 use mathlib.Core.Path.{_≡_}
-use mathlib.Core.List.{List, [], _++_}
-use Rattle.frames.specs.Frames.{frame, pairingRandom}
+use mathlib.Core.List.{List, [], _∷_}
+use mathlib.Core.Bool.{Bool, true, not, _&&_}
+use lib.Dec.{eqb}
+use Rattle.frames.specs.Packets.{Packet, codeOf, randomCode, pairingRandom}
+use Rattle.protocol.specs.Role.{Call}
 use Rattle.machine.specs.declared.Phase.the-variants as P
 use Rattle.machine.specs.declared.State.{State}
-use Rattle.machine.specs.Step.{Call}
-use Rattle.machine.specs.Passed.{Command, Matching}
+use Rattle.machine.specs.Passed.{Value, Matching}
 
--- nothing, one frame or two, and none of them a Pairing Random
-pub data NoRandom : List ℕ → Type 0 where
-  none : NoRandom []
-  one : (code : ℕ) (w : List ℕ) → ¬ (code ≡ 0x04) → NoRandom (frame code w)
-  two : (code code′ : ℕ) (w w′ : List ℕ) → ¬ (code ≡ 0x04) → ¬ (code′ ≡ 0x04) → NoRandom (frame code w ++ frame code′ w′)
+-- none of the packets is a Pairing Random
+abbrev pub noRandom : List Packet → Bool
+noRandom [] = true
+noRandom (p ∷ ps) = not (eqb (codeOf p) randomCode) && noRandom ps
 
--- what a call of passkey entry sends: no Pairing Random; or our nonce, in a round whose confirm matches
-pub data Discloses (m : State) (c : Call) : List ℕ → Type 0 where
-  hidden : {f : List ℕ} → NoRandom f → Discloses m c f
-  inRound : {r : ℕ} {w : List ℕ} → m .phase ≡ P.WaitingPassKeyEntryRandom r → Matching (m .secrets .confirm) w c → Discloses m c (pairingRandom (m .secrets .ownnonce))
+-- what a call of passkey entry sends: no Pairing Random; or our nonce alone, in a round whose confirm matches
+pub data Discloses (m : State) (c : Call) : List Packet → Type 0 where
+  hidden : {ps : List Packet} → noRandom ps ≡ true → Discloses m c ps
+  matched : {r : ℕ} {w : List ℕ} → m .phase ≡ P.WaitingPassKeyEntryRandom r → Matching (m .secrets .confirm) w c
+      → Discloses m c (pairingRandom (m .secrets .ownnonce) ∷ [])
 
 -- what a call of any method sends
-pub data Sends (m : State) (c : Call) : List ℕ → Type 0 where
-  passkey : {f : List ℕ} → Discloses m c f → Sends m c f
-  comparison : {w : List ℕ} → m .phase ≡ P.WaitingNumericComparisonRandom → Command 0x04 16 w c → Sends m c (pairingRandom (m .secrets .ownnonce))
-  outOfBand : {w : List ℕ} → m .phase ≡ P.WaitingOobRandom → Command 0x04 16 w c → Sends m c (pairingRandom (c .supplied .nonce))
+pub data Sends (m : State) (c : Call) : List Packet → Type 0 where
+  passkey : {ps : List Packet} → Discloses m c ps → Sends m c ps
+  comparison : {w : List ℕ} → m .phase ≡ P.WaitingNumericComparisonRandom → Value randomCode w c → Sends m c (pairingRandom (m .secrets .ownnonce) ∷ [])
+  outOfBand : {w : List ℕ} → m .phase ≡ P.WaitingOobRandom → Value randomCode w c → Sends m c (pairingRandom (c .supplied .nonce) ∷ [])

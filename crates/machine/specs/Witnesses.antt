@@ -4,7 +4,6 @@ use mathlib.Core.List.{List, [], _∷_, _++_, map}
 use mathlib.Core.Bool.{Bool, true, false}
 use lib.ListN.{length, replicate}
 use Rattle.octets.specs.Octets.{zeros}
-use Rattle.address.specs.declared.AddressKind.the-variants.{Public}
 use Rattle.features.specs.declared.IoCapabilities.{IoCapabilities}
 use Rattle.features.specs.declared.IoCapabilities.the-variants.{DisplayOnly, DisplayYesNo, KeyboardOnly, NoInputNoOutput}
 use Rattle.features.specs.declared.UseOutOfBand.{UseOutOfBand}
@@ -12,34 +11,23 @@ use Rattle.features.specs.declared.UseOutOfBand.the-variants.{NotPresent, Prese
 use Rattle.method.specs.declared.PairingMethod.{PairingMethod}
 use Rattle.method.specs.declared.PairingMethod.the-variants.{JustWorks, NumericComparison, PassKeyEntry, OutOfBand}
 use Rattle.method.specs.declared.PassKeyEntryAction.the-variants as W
+use Rattle.frames.specs.Packets.{requestCode, publicKeyCode, confirmCode, randomCode, checkCode, identityInformationCode, identityAddressCode}
 use Rattle.protocol.specs.declared.Configured.the-variants as C
 use Rattle.protocol.specs.declared.Event.{Event}
 use Rattle.protocol.specs.declared.Event.the-variants as I
 use Rattle.protocol.specs.declared.Setup.{Setup}
 use Rattle.protocol.specs.declared.Supplied.{Supplied}
+use Rattle.protocol.specs.Plan.{nowhere}
+use Rattle.protocol.specs.Role.{Call, command, event, enough}
 use Rattle.machine.specs.declared.Phase.{Phase}
 use Rattle.machine.specs.declared.Phase.the-variants as P
-use Rattle.machine.specs.Outcome.{noBond, finishedPhase}
-use Rattle.machine.specs.Step.{Call, command, event}
-use Rattle.machine.specs.Fresh.{freshState}
-use Rattle.machine.specs.Run.{run, history, trace}
+use Rattle.machine.specs.State.{bondless, finishedPhase, freshState}
+use Rattle.machine.specs.Run.{begun, taken, trace}
 
 -- a box, by its IO and OOB
 abbrev pub box : IoCapabilities → UseOutOfBand → Setup
 box io oob =
-    record {
-      io = io;
-      oob = oob;
-      bonding = true;
-      passkey = C.Nothing;
-      keyx = zeros 32;
-      keyy = zeros 32;
-      irk = zeros 16;
-      own = record { kind = Public; octets = zeros 6 };
-      identity = record { kind = Public; octets = zeros 6 };
-      peer = record { kind = Public; octets = zeros 6 };
-      known = record { there = false; bond = noBond };
-    }
+    record { io = io; oob = oob; bonding = true; passkey = C.Nothing; keyx = zeros 32; keyy = zeros 32; irk = zeros 16; own = nowhere; identity = nowhere; peer = nowhere; known = bondless }
 
 -- a value as it travels, and as it is supplied
 abbrev pub sixteen : List ℕ
@@ -50,88 +38,74 @@ turned = 15 ∷ 14 ∷ 13 ∷ 12 ∷ 11 ∷ 10 ∷ 9 ∷ 8 ∷ 7 ∷ 6 ∷ 5 ∷
 
 -- what is supplied, with what the peer's confirm must be
 abbrev pub given : List ℕ → Supplied
-given confirm =
-    record {
-      nonce = turned;
-      passkey = 999999;
-      dhvalid = true;
-      dhkey = zeros 32;
-      ownconfirm = zeros 16;
-      peerconfirm = confirm;
-      g2 = 0;
-      mackey = zeros 16;
-      ltk = turned;
-      peercheck = turned;
-      owncheck = zeros 16;
-    }
+given v =
+    record { nonce = turned; passkey = 999999; dhvalid = true; dhkey = zeros 32; ownconfirm = zeros 16; peerconfirm = v; g2 = 0; mackey = zeros 16; ltk = turned; peercheck = turned; owncheck = zeros 16 }
 
 abbrev pub tell : ℕ → List ℕ → Call
-tell k w = record { input = command (k ∷ w); supplied = given turned; room = 90 }
+tell k w = record { input = command (k ∷ w); supplied = given turned; room = enough }
 
 abbrev pub raise : Event → Call
-raise e = record { input = event e (record { ownrandom = zeros 16; peerrandom = zeros 16; peerconfirm = zeros 16 }); supplied = given turned; room = 90 }
+raise e = record { input = event e (record { ownrandom = zeros 16; peerrandom = zeros 16; peerconfirm = zeros 16 }); supplied = given turned; room = enough }
 
 -- a request of a peer with a keyboard and a display that asks MITM, with its initiator key bits
 abbrev pub asking : ℕ → Call
-asking bits = tell 0x01 (4 ∷ 0 ∷ 0x0D ∷ 16 ∷ bits ∷ 2 ∷ [])
+asking bits = tell requestCode (4 ∷ 0 ∷ 0x0D ∷ 16 ∷ bits ∷ 2 ∷ [])
 
 abbrev pub key : Call
-key = tell 0x0C (zeros 64)
+key = tell publicKeyCode (zeros 64)
 
 -- n rounds, and what follows
 unfoldable pub rounds : ℕ → List Call → List Call
 rounds zero rest = rest
-rounds (suc n) rest = tell 0x03 sixteen ∷ tell 0x04 sixteen ∷ rounds n rest
+rounds (suc n) rest = tell confirmCode sixteen ∷ tell randomCode sixteen ∷ rounds n rest
 
--- the link is encrypted, and the peer's identity comes
+-- the link is encrypted, and the peer's identity comes; the same after the DHKey check
 abbrev pub identity : List Call
-identity = raise (I.LinkEncryptedResult true) ∷ tell 0x08 sixteen ∷ tell 0x09 (1 ∷ zeros 6) ∷ []
+identity = raise (I.LinkEncryptedResult true) ∷ tell identityInformationCode sixteen ∷ tell identityAddressCode (1 ∷ zeros 6) ∷ []
 
--- the same behind the DHKey check
 abbrev pub ending : List Call
-ending = tell 0x0D sixteen ∷ identity
+ending = tell checkCode sixteen ∷ identity
 
--- passkey typed here, round 0's confirm behind it or before it: 47 calls
-unfoldable pub typedRun : List Call
+-- passkey typed here, round 0's confirm after it or before it: 47 calls
+abbrev pub typedRun : List Call
 typedRun = asking 2 ∷ key ∷ raise (I.PassKeyInput 123456) ∷ rounds 20 ending
 
-unfoldable pub lateRun : List Call
-lateRun = asking 2 ∷ key ∷ tell 0x03 sixteen ∷ raise (I.PassKeyInput 123456) ∷ tell 0x04 sixteen ∷ rounds 19 ending
+abbrev pub lateRun : List Call
+lateRun = asking 2 ∷ key ∷ tell confirmCode sixteen ∷ raise (I.PassKeyInput 123456) ∷ tell randomCode sixteen ∷ rounds 19 ending
 
 -- passkey shown here: 46
-unfoldable pub shownRun : List Call
+abbrev pub shownRun : List Call
 shownRun = asking 2 ∷ key ∷ rounds 20 ending
 
--- numeric comparison, the check behind the user's yes or before it: 8
-unfoldable pub comparedRun : List Call
-comparedRun = asking 2 ∷ key ∷ tell 0x04 sixteen ∷ raise I.PassKeyConfirm ∷ ending
+-- numeric comparison, the check after the user's yes or before it: 8
+abbrev pub comparedRun : List Call
+comparedRun = asking 2 ∷ key ∷ tell randomCode sixteen ∷ raise I.PassKeyConfirm ∷ ending
 
-unfoldable pub heldRun : List Call
-heldRun = asking 2 ∷ key ∷ tell 0x04 sixteen ∷ tell 0x0D sixteen ∷ raise I.PassKeyConfirm ∷ identity
+abbrev pub heldRun : List Call
+heldRun = asking 2 ∷ key ∷ tell randomCode sixteen ∷ tell checkCode sixteen ∷ raise I.PassKeyConfirm ∷ identity
 
 -- out of band: 8
-unfoldable pub oobRun : List Call
-oobRun = asking 2 ∷ key ∷ raise I.OobDataReceived ∷ tell 0x04 sixteen ∷ ending
+abbrev pub oobRun : List Call
+oobRun = asking 2 ∷ key ∷ raise I.OobDataReceived ∷ tell randomCode sixteen ∷ ending
 
 -- Just Works: 7, and 5 where the peer's initiator bit is not set
-unfoldable pub worksRun : List Call
-worksRun = asking 2 ∷ key ∷ tell 0x04 sixteen ∷ ending
+abbrev pub worksRun : List Call
+worksRun = asking 2 ∷ key ∷ tell randomCode sixteen ∷ ending
 
-unfoldable pub bareRun : List Call
-bareRun = asking 0 ∷ key ∷ tell 0x04 sixteen ∷ tell 0x0D sixteen ∷ raise (I.LinkEncryptedResult true) ∷ []
+abbrev pub bareRun : List Call
+bareRun = asking 0 ∷ key ∷ tell randomCode sixteen ∷ tell checkCode sixteen ∷ raise (I.LinkEncryptedResult true) ∷ []
 
 -- a bonded link, no pairing: 1
-unfoldable pub bondedRun : List Call
+abbrev pub bondedRun : List Call
 bondedRun = raise (I.LinkEncryptedResult true) ∷ []
 
 -- a random of round 0 with another peerconfirm than the confirm that came
-unfoldable pub wrongRun : List Call
-wrongRun = asking 2 ∷ key ∷ tell 0x03 sixteen ∷ record { input = command (0x04 ∷ sixteen); supplied = given sixteen; room = 90 } ∷ []
+abbrev pub wrongRun : List Call
+wrongRun = asking 2 ∷ key ∷ tell confirmCode sixteen ∷ record { input = command (randomCode ∷ sixteen); supplied = given sixteen; room = enough } ∷ []
 
--- three refused calls among those of a bonded link: an outbox too short, a passkey out of range, and one behind the end
-unfoldable pub refusedRun : List Call
-refusedRun =
-    record { input = command (0x01 ∷ []); supplied = given turned; room = 89 } ∷ raise (I.PassKeyInput 1000000) ∷ raise (I.LinkEncryptedResult true) ∷ key ∷ []
+-- three refused calls among those of a bonded link: an outbox too short, a passkey out of range, and one after the end
+abbrev pub refusedRun : List Call
+refusedRun = record { input = command (requestCode ∷ []); supplied = given turned; room = enough - 1 } ∷ raise (I.PassKeyInput 1000000) ∷ raise (I.LinkEncryptedResult true) ∷ key ∷ []
 
 -- a run of a box, its method, and how many calls it takes
 pub record Sample : Type 0 where
@@ -141,25 +115,17 @@ pub record Sample : Type 0 where
   pub takes : ℕ
 
 -- what comes of a sample: the method, how many calls were taken, after each call whether the machine is finished, and its last phase
-pub record Came : Type 0 where
-  pub method : PairingMethod
-  pub taken : ℕ
-  pub ends : List Bool
-  pub last : Phase
+abbrev pub Came : Type 0
+Came = PairingMethod × ℕ × List Bool × Phase
 
 abbrev pub made : Sample → Came
 made s =
-    let m = freshState (s .setup) in
-    record {
-      method = run m (s .calls) .method;
-      taken = length (history m (s .calls));
-      ends = map finishedPhase (trace m (s .calls));
-      last = run m (s .calls) .phase;
-    }
+    let m = begun (s .setup) (s .calls) in
+    (m .method, length (taken (s .setup) (s .calls)), map finishedPhase (trace (freshState (s .setup)) (s .calls)), m .phase)
 
 -- every call is taken, and the last one finishes the machine
 abbrev pub said : Sample → Came
-said s = record { method = s .method; taken = s .takes; ends = replicate (s .takes - 1) false ++ (true ∷ []); last = P.Success }
+said s = (s .method, s .takes, replicate (s .takes - 1) false ++ (true ∷ []), P.Success)
 
 -- the first seven take as many calls as their method can
 unfoldable pub samples : List Sample

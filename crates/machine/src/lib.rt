@@ -1,7 +1,5 @@
-// The responder's state and what comes out of a step. What goes into it, and what both roles share, is in `protocol`. The machine itself stands
-// in specs/ as definitions that read like the scope's list of steps; the crates above hold the code that meets them.
-//
-// Names of phases and events are those of the crate.
+// The responder's state, and what a step of it gives back. The machine itself stands in specs/, as plans that read like the scope's list of
+// steps, with the theorems about it in proofs/; the crates above hold the code that follows the plans. Names of phases are those of the crate.
 use address::Address;
 use features::PairingFeatures;
 use method::PairingMethod;
@@ -43,10 +41,20 @@ pub struct State {
     pub peer: Address,
 }
 
-// What a call gives back: the state after it, how many octets stand in the outbox, the user's events in order, the action and the answer.
-// `first` is BondLost or nothing.
+// The machine but for its setup, which no step changes.
+pub struct Progress {
+    pub phase: Phase,
+    pub features: PairingFeatures,
+    pub method: PairingMethod,
+    pub secrets: Secrets,
+    pub bond: MaybeBond,
+    pub peer: Address,
+}
+
+// What a step gives back: the state after it but for its setup, how many octets stand in the outbox, the user's events in order, the action
+// and the answer. `first` is BondLost or nothing.
 pub struct Step {
-    pub state: State,
+    pub progress: Progress,
     pub sent: usize,
     pub first: ConnectionEvent,
     pub second: ConnectionEvent,

@@ -7,8 +7,9 @@ use protocol::ConnectionEvent;
 use protocol::Event;
 use protocol::Failure;
 use protocol::Supplied;
-ghost use Rattle.machine.specs.Outcome.{Met};
-ghost use Rattle.machine.specs.Numeric.{compares, comparisonRandomOf, confirmedOf, comparisonEvent};
+use protocol::Verdict;
+ghost use Rattle.machine.specs.Numeric.{compares, onComparisonRandom, confirmed, onComparison};
+ghost use Rattle.machine.specs.Responder.{Follows};
 
 // A command in WaitingNumericComparisonRandom: the peer's nonce, which ours answers.
 pub fn comparison_random(
@@ -18,16 +19,16 @@ pub fn comparison_random(
     supplied: Supplied,
     out: &mut [u8],
 ) -> Step
-    ensures { λ r. ⌜ Met (comparisonRandomOf state code (now (payload .entry)) supplied) r (now (out .entry)) (now (out .exit)) ⌝ }
+    ensures { λ r. ⌜ Follows state supplied (onComparisonRandom state code (now (payload .entry))) r (now (out .entry)) (now (out .exit)) ⌝ }
 {
-    if code != 4 {
-        return outcome::failed(state, Failure::InvalidState);
+    let verdict = payloads::random(code, payload);
+    match verdict {
+        Verdict::Wrong(failure) => states::failed(state, failure),
+        Verdict::Awaited => {
+            let method = state.method;
+            compare(method, state, octets::reversed16(payload), supplied, out)
+        }
     }
-    if payload.len() != 16 {
-        return outcome::failed(state, Failure::InvalidParameters);
-    }
-    let method = state.method;
-    compare(method, state, octets::reversed16(payload), supplied.g2, out)
 }
 
 // An event in WaitingNumericComparisonResult: the user's yes or no.
@@ -38,51 +39,57 @@ pub fn comparison_event(
     supplied: Supplied,
     out: &mut [u8],
 ) -> Step
-    ensures { λ r. ⌜ Met (comparisonEvent state held event supplied) r (now (out .entry)) (now (out .exit)) ⌝ }
+    ensures { λ r. ⌜ Follows state supplied (onComparison state held event) r (now (out .entry)) (now (out .exit)) ⌝ }
 {
     match event {
         Event::PassKeyConfirm => confirmed(state, held, supplied, out),
-        Event::PassKeyCancel => outcome::failed(state, Failure::NumericComparisonFailed),
-        _ => outcome::failed(state, Failure::InvalidState),
+        Event::PassKeyCancel => states::failed(state, Failure::NumericComparisonFailed),
+        _ => states::failed(state, Failure::InvalidState),
     }
 }
 
 // Our nonce goes out. Just Works goes on; else the user compares six digits.
-fn compare(method: PairingMethod, state: State, nonce: [u8; 16], g2: u32, out: &mut [u8]) -> Step
-    ensures { λ r. ⌜ Met (compares method state nonce g2) r (now (out .entry)) (now (out .exit)) ⌝ }
+fn compare(
+    method: PairingMethod,
+    state: State,
+    nonce: [u8; 16],
+    supplied: Supplied,
+    out: &mut [u8],
+) -> Step
+    ensures { λ r. ⌜ Follows state supplied (compares method state nonce) r (now (out .entry)) (now (out .exit)) ⌝ }
 {
     let mut secrets = state.secrets;
     let own_nonce = secrets.ownnonce;
     secrets.peernonce = nonce;
     let sent = frames::random(out, own_nonce);
     match method {
-        PairingMethod::JustWorks => outcome::goes(
+        PairingMethod::JustWorks => states::goes(
             state,
             Phase::WaitingDHKeyEa,
             secrets,
             sent,
             ConnectionEvent::Nothing,
         ),
-        _ => outcome::goes(
+        _ => states::goes(
             state,
             Phase::WaitingNumericComparisonResult(false),
             secrets,
             sent,
-            ConnectionEvent::PassKeyConfirm(g2 % 1_000_000),
+            ConnectionEvent::PassKeyConfirm(supplied.g2 % 1_000_000),
         ),
     }
 }
 
 // The user's yes: a held check is handled, or the check is waited for.
 fn confirmed(state: State, held: bool, supplied: Supplied, out: &mut [u8]) -> Step
-    ensures { λ r. ⌜ Met (confirmedOf state held supplied) r (now (out .entry)) (now (out .exit)) ⌝ }
+    ensures { λ r. ⌜ Follows state supplied (confirmed state held) r (now (out .entry)) (now (out .exit)) ⌝ }
 {
     let secrets = state.secrets;
     let early = secrets.held;
     if held {
         return dhkey::check_value(state, early, supplied, out);
     }
-    outcome::goes(
+    states::goes(
         state,
         Phase::WaitingDHKeyEa,
         secrets,

@@ -7,12 +7,13 @@ use protocol::Event;
 use protocol::Failure;
 use protocol::Secrets;
 use protocol::Supplied;
+use protocol::Verdict;
 use rounds::Following;
 ghost use mathlib.Core.Path.{_≡_};
 ghost use Rattle.rounds.specs.Rounds.{afterOf};
 ghost use Rattle.octets.specs.Octets.{same};
-ghost use Rattle.machine.specs.Outcome.{Met};
-ghost use Rattle.machine.specs.Passkey.{confirming, typedOf, typingEvent, confirmOf, waits, randomOf};
+ghost use Rattle.machine.specs.Passkey.{confirming, typed, onTyping, onConfirm, waits, testing, onRandom};
+ghost use Rattle.machine.specs.Responder.{Follows};
 
 // An event in WaitingPassKeyInput: the passkey, or the user's no.
 pub fn typing_event(
@@ -22,12 +23,12 @@ pub fn typing_event(
     supplied: Supplied,
     out: &mut [u8],
 ) -> Step
-    ensures { λ r. ⌜ Met (typingEvent state held event supplied) r (now (out .entry)) (now (out .exit)) ⌝ }
+    ensures { λ r. ⌜ Follows state supplied (onTyping state held event) r (now (out .entry)) (now (out .exit)) ⌝ }
 {
     match event {
-        Event::PassKeyCancel => outcome::failed(state, Failure::PasskeyEntryFailed),
+        Event::PassKeyCancel => states::failed(state, Failure::PasskeyEntryFailed),
         Event::PassKeyInput(passkey) => typed(state, held, passkey, supplied, out),
-        _ => outcome::failed(state, Failure::InvalidState),
+        _ => states::failed(state, Failure::InvalidState),
     }
 }
 
@@ -40,26 +41,26 @@ pub fn confirm(
     supplied: Supplied,
     out: &mut [u8],
 ) -> Step
-    ensures { λ r. ⌜ Met (confirmOf state round code (now (payload .entry)) supplied) r (now (out .entry)) (now (out .exit)) ⌝ }
+    ensures { λ r. ⌜ Follows state supplied (onConfirm state round code (now (payload .entry))) r (now (out .entry)) (now (out .exit)) ⌝ }
 {
-    if code != 3 {
-        return outcome::failed(state, Failure::InvalidState);
+    let verdict = payloads::confirm(code, payload);
+    match verdict {
+        Verdict::Wrong(failure) => states::failed(state, failure),
+        Verdict::Awaited => {
+            let secrets = state.secrets;
+            confirm_round(
+                state,
+                secrets,
+                round,
+                octets::reversed16(payload),
+                supplied,
+                out,
+            )
+        }
     }
-    if payload.len() != 16 {
-        return outcome::failed(state, Failure::InvalidParameters);
-    }
-    let secrets = state.secrets;
-    confirm_round(
-        state,
-        secrets,
-        round,
-        octets::reversed16(payload),
-        supplied,
-        out,
-    )
 }
 
-// A command in WaitingPassKeyEntryRandom: our nonce leaves only where the kept confirm is the right one.
+// A command in WaitingPassKeyEntryRandom.
 pub fn random(
     state: State,
     round: u8,
@@ -68,29 +69,33 @@ pub fn random(
     supplied: Supplied,
     out: &mut [u8],
 ) -> Step
-    ensures { λ r. ⌜ Met (randomOf state round code (now (payload .entry)) supplied) r (now (out .entry)) (now (out .exit)) ⌝ }
+    ensures { λ r. ⌜ Follows state supplied (onRandom state round code (now (payload .entry))) r (now (out .entry)) (now (out .exit)) ⌝ }
 {
-    if code != 4 {
-        return outcome::failed(state, Failure::InvalidState);
+    let verdict = payloads::random(code, payload);
+    match verdict {
+        Verdict::Wrong(failure) => states::failed(state, failure),
+        Verdict::Awaited => test_round(state, round, octets::reversed16(payload), supplied, out),
     }
-    if payload.len() != 16 {
-        return outcome::failed(state, Failure::InvalidParameters);
-    }
+}
+
+// A round's random: our nonce leaves only where the kept confirm is the right one.
+fn test_round(state: State, round: u8, nonce: [u8; 16], supplied: Supplied, out: &mut [u8]) -> Step
+    ensures { λ r. ⌜ Follows state supplied (testing state round nonce) r (now (out .entry)) (now (out .exit)) ⌝ }
+{
     if confirmed(state, supplied) {
         let mut secrets = state.secrets;
         let own_nonce = secrets.ownnonce;
         let sent = frames::random(out, own_nonce);
-        let peer_nonce = octets::reversed16(payload);
-        secrets.peernonce = peer_nonce;
-        return outcome::goes(
+        secrets.peernonce = nonce;
+        return states::goes(
             state,
-            behind(round),
+            following_phase(round),
             secrets,
             sent,
             ConnectionEvent::Nothing,
         );
     }
-    outcome::failed(state, Failure::ConfirmValueFailed)
+    states::failed(state, Failure::ConfirmValueFailed)
 }
 
 // Whether the confirm kept for the round is the right one.
@@ -105,7 +110,7 @@ fn confirmed(state: State, supplied: Supplied) -> bool
 
 // The passkey was typed: it becomes both secrets, and a held confirm is round 0's.
 fn typed(state: State, held: bool, passkey: u32, supplied: Supplied, out: &mut [u8]) -> Step
-    ensures { λ r. ⌜ Met (typedOf state held passkey supplied) r (now (out .entry)) (now (out .exit)) ⌝ }
+    ensures { λ r. ⌜ Follows state supplied (typed state held passkey) r (now (out .entry)) (now (out .exit)) ⌝ }
 {
     let secrets = state.secrets;
     let early = secrets.held;
@@ -113,7 +118,7 @@ fn typed(state: State, held: bool, passkey: u32, supplied: Supplied, out: &mut [
     if held {
         return confirm_round(state, keyed, 0, early, supplied, out);
     }
-    outcome::goes(
+    states::goes(
         state,
         Phase::WaitingPassKeyEntryConfirm(0),
         keyed,
@@ -131,7 +136,7 @@ fn confirm_round(
     supplied: Supplied,
     out: &mut [u8],
 ) -> Step
-    ensures { λ r. ⌜ Met (confirming state secrets round value supplied) r (now (out .entry)) (now (out .exit)) ⌝ }
+    ensures { λ r. ⌜ Follows state supplied (confirming state secrets round value) r (now (out .entry)) (now (out .exit)) ⌝ }
 {
     let own_confirm = supplied.ownconfirm;
     let nonce = supplied.nonce;
@@ -139,7 +144,7 @@ fn confirm_round(
     let mut kept = secrets;
     kept.confirm = value;
     kept.ownnonce = nonce;
-    outcome::goes(
+    states::goes(
         state,
         Phase::WaitingPassKeyEntryRandom(round),
         kept,
@@ -148,8 +153,8 @@ fn confirm_round(
     )
 }
 
-// What is waited for behind a round.
-fn behind(round: u8) -> Phase
+// What is waited for after a round.
+fn following_phase(round: u8) -> Phase
     ensures { λ r. ⌜ r ≡ waits (afterOf round) ⌝ }
 {
     let following = rounds::after(round);

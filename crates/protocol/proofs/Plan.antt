@@ -1,9 +1,13 @@
 -- What every plan has: it reads only what it asks and draws, and answering by the toolbox is being handed the toolbox's answers. Assumes nothing.
 use mathlib.Core.Path.{_≡_, refl, sym, ap, _∙_}
-use mathlib.Core.List.{_∷_}
+use Prim.Native.Nat.{ℕ}
+use mathlib.Core.List.{List, _∷_}
 use mathlib.Core.Bool.{true, false}
+use Rattle.address.specs.declared.Address.{Address}
+use Rattle.protocol.specs.declared.QuestionKind.the-variants as Q
 use Rattle.protocol.specs.declared.Supplied.{Supplied}
 use Rattle.protocol.specs.Plan.{Plan, Ending, ends, asks, drawsNonce, drawsPasskey, tests, reply, runs, asked, Agree, Along, Toolbox, computed, answered, Holds}
+use Rattle.protocol.specs.Parts.{askDh, askF4, askF5, askF6, askG2}
 
 module _ {S : Type 0} where
   pub reads-only : (a b : Supplied) (p : Plan S) → Agree a b p → (runs a p ≡ runs b p) × (asked a p ≡ asked b p)
@@ -39,3 +43,24 @@ module _ {S : Type 0} where
   along a P (drawsPasskey k) h = along a P (k (a .passkey)) h
   along a P (tests true p q) h = along a P p (h .0 refl)
   along a P (tests false p q) h = along a P q (h .1 refl)
+
+-- The toolbox's answer to a question is the function of its kind at the arguments that the question was made of
+module _ (t : Toolbox) (a : Supplied) where
+  pub computes-f4 : (u v x : List ℕ) (z : ℕ)
+      → (computed t a (askF4 Q.OwnConfirm u v x z) Q.OwnConfirm ≡ t .f4 u v x z) × (computed t a (askF4 Q.PeerConfirm u v x z) Q.PeerConfirm ≡ t .f4 u v x z)
+  computes-f4 u v x z = (refl, refl)
+
+  pub computes-f5 : (w n1 n2 : List ℕ) (a1 a2 : Address) → computed t a (askF5 w n1 n2 a1 a2) Q.F5 ≡ t .f5 w n1 n2 a1 a2
+  computes-f5 w n1 n2 a1 a2 = refl
+
+  pub computes-f6 : (w n1 n2 r io : List ℕ) (a1 a2 : Address)
+      → (computed t a (askF6 Q.PeerCheck w n1 n2 r io a1 a2) Q.PeerCheck ≡ t .f6 w n1 n2 r io a1 a2)
+      × (computed t a (askF6 Q.OwnCheck w n1 n2 r io a1 a2) Q.OwnCheck ≡ t .f6 w n1 n2 r io a1 a2)
+  computes-f6 w n1 n2 r io a1 a2 = (refl, refl)
+
+  pub computes-g2 : (u v x y : List ℕ) → computed t a (askG2 u v x y) Q.G2 ≡ t .g2 u v x y
+  computes-g2 u v x y = refl
+
+  -- DH stays with the caller
+  pub computes-dh : (x y : List ℕ) → computed t a (askDh x y) Q.DH ≡ (a .dhvalid, a .dhkey)
+  computes-dh x y = refl

@@ -1,16 +1,19 @@
 -- The front of a call, walked once for every role: its refusals, an empty command, and then the plan of what it brings. Assumes nothing.
-use Prim.Native.Nat.{ℕ, _≤_, _<_}
-use mathlib.Core.Path.{_≡_, refl}
+use Prim.Native.Nat.{ℕ, _-_, _≤_, _<_}
+use mathlib.Core.Path.{_≡_, refl, sym, ap}
 use mathlib.Core.List.{List, [], _∷_}
-use mathlib.Core.Bool.{Bool, true, false}
+use mathlib.Core.Bool.{true, false}
+use lib.ListN.{length, getD, take, drop}
+use lib.Seq.{take-all}
 use lib.Dec.{ltb}
-use borrow.Author.Tests.{ltb-true, ltb-false, le-ltb}
+use native.Mathlib.Omega.{arith}
+use borrow.Author.Tests.{ltb-true, ltb-false}
 use Rattle.protocol.specs.declared.ConnectionEvent.the-variants as E
 use Rattle.protocol.specs.declared.Event.{Event}
 use Rattle.protocol.specs.declared.Failure.the-variants as F
 use Rattle.protocol.specs.declared.OobData.{OobData}
 use Rattle.protocol.specs.declared.Refusal.the-variants as R
-use Rattle.protocol.specs.Plan.{Ending, refuses, fails, runs, Along}
+use Rattle.protocol.specs.Plan.{Ending, ends, refuses, fails, runs, Along}
 use Rattle.protocol.specs.Role.{Role, Call, Input, command, event, ranged, enough, taking, plan}
 use Rattle.protocol.proofs.Plan.{along}
 
@@ -41,14 +44,12 @@ module _ {S : Type 0} (role : Role S) (m : S) (c : Call) (P : Ending S → Type 
         ),
       )
 
--- and back: what a call brings is what its plan says
-module _ {S : Type 0} (role : Role S) (m : S) (c : Call) (u : role .finished m ≡ false) (n : enough ≤ c .room) where
-  pub command-took : (code : ℕ) (body : List ℕ) → c .input ≡ command (code ∷ body)
-      → runs (c .supplied) (plan role m (c .input) (c .room)) ≡ runs (c .supplied) (role .commanded m code body)
-  unfolding runs
-  command-took code body i = rw (i, u, le-ltb (c .room) enough n)
+-- a command as the code has it: its length, its first octet, and the rest
+module _ {S : Type 0} (role : Role S) (m : S) where
+  pub no-octets : (cmd : List ℕ) → length cmd ≡ 0 → taking role m (command cmd) ≡ ends (fails E.Nothing F.InvalidParameters)
+  no-octets [] e = refl
+  no-octets (code ∷ body) e = absurd (omega arith)
 
-  pub event-took : (e : Event) (o : OobData) → c .input ≡ event e o → ranged (event e o) ≡ true
-      → runs (c .supplied) (plan role m (c .input) (c .room)) ≡ runs (c .supplied) (role .raised m e o)
-  unfolding runs
-  event-took e o i r = rw (i, u, le-ltb (c .room) enough n, r)
+  pub some-octets : (cmd : List ℕ) → (length cmd ≡ 0 → ⊥) → taking role m (command cmd) ≡ role .commanded m (getD cmd 0 0) (take (length cmd - 1) (drop 1 cmd))
+  some-octets [] h = absurd (h refl)
+  some-octets (code ∷ body) h = ap (role .commanded m code) (sym (take-all (length (code ∷ body) - 1) body (omega arith)))

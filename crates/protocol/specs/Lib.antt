@@ -6,3 +6,5 @@ pub mod Exchanged
 pub mod Role
 pub mod Next
 pub mod Met
+pub mod Draws
+pub mod Ends

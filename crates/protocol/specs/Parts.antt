@@ -1,7 +1,7 @@
 -- The parts that plans are made of: how a packet that comes is read, which passkey is shown, and what is asked. Of any type S of states.
 use Prim.Native.Nat.{ℕ}
 use mathlib.Core.List.{List}
-use mathlib.Core.Bool.{Bool, true, false, cond, not}
+use mathlib.Core.Bool.{Bool, cond, not}
 use lib.ListN.{length, take, drop}
 use lib.Dec.{eqb, ltb}
 use Rattle.octets.specs.Octets.{flip, zeros}
@@ -19,13 +19,14 @@ use Rattle.protocol.specs.declared.Acceptance.the-variants.{Accepted, Re
 use Rattle.protocol.specs.declared.Configured.{Configured}
 use Rattle.protocol.specs.declared.Configured.the-variants as C
 use Rattle.protocol.specs.declared.ConnectionEvent.{ConnectionEvent}
-use Rattle.protocol.specs.declared.ConnectionEvent.the-variants as E
 use Rattle.protocol.specs.declared.Failure.{Failure}
 use Rattle.protocol.specs.declared.Failure.the-variants as F
 use Rattle.protocol.specs.declared.Question.{Question}
 use Rattle.protocol.specs.declared.QuestionKind.{QuestionKind}
 use Rattle.protocol.specs.declared.QuestionKind.the-variants as Q
 use Rattle.protocol.specs.declared.Refusal.the-variants as R
+use Rattle.protocol.specs.declared.Verdict.{Verdict}
+use Rattle.protocol.specs.declared.Verdict.the-variants.{Awaited, Wrong}
 use Rattle.protocol.specs.Plan.{Plan, ends, drawsPasskey, tests, refuses, fails, needs, nowhere}
 
 -- Features
@@ -56,6 +57,10 @@ keyX body = flip (take 32 body)
 
 abbrev pub keyY : List ℕ → List ℕ
 keyY body = flip (drop 32 body)
+
+-- the tests of a code and of a length, in this order
+unfoldable pub verdictOf : Bool → Bool → Failure → Verdict
+verdictOf code size f = cond code (cond size Awaited (Wrong f)) (Wrong F.InvalidState)
 
 module _ {S : Type 0} where
   -- features by the code k; an event is raised first, whether or not they are acceptable

@@ -14,6 +14,8 @@ use Rattle.protocol.specs.declared.Event.{Event}
 use Rattle.protocol.specs.declared.Event.the-variants as I
 use Rattle.protocol.specs.declared.Failure.{Failure}
 use Rattle.protocol.specs.declared.Failure.the-variants as F
+use Rattle.protocol.specs.declared.Gate.{Gate}
+use Rattle.protocol.specs.declared.Gate.the-variants.{Open, Shut}
 use Rattle.protocol.specs.declared.OobData.{OobData}
 use Rattle.protocol.specs.declared.Question.{Question}
 use Rattle.protocol.specs.declared.Refusal.the-variants as R
@@ -45,6 +47,10 @@ ranged (event I.OobDataReceived o) = true
 -- the longest step sends a public key and a confirm
 abbrev pub enough : ℕ
 enough = 90
+
+-- R1, R2 and R3, in this order, by their tests: finished, the outbox too short, the passkey in range
+unfoldable pub gateOf : Bool → Bool → Bool → Gate
+gateOf finished short range = cond finished (Shut R.Finished) (cond short (Shut R.OutboxShort) (cond range Open (Shut R.PasskeyRange)))
 
 -- Roles
 

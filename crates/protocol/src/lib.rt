@@ -6,6 +6,9 @@ use features::PairingFeatures;
 use features::UseOutOfBand;
 use method::SecurityLevel;
 
+// The longest step sends a public key and a confirm: no outbox is shorter.
+pub const ENOUGH: usize = 90;
+
 // Why a pairing failed.
 pub enum Failure {
     InvalidState,
@@ -32,6 +35,18 @@ pub enum Answer {
     Taken,
     Failed(Failure),
     Refused(Refusal),
+}
+
+// Whether a call is let in, or why it is refused.
+pub enum Gate {
+    Open,
+    Shut(Refusal),
+}
+
+// Whether a command is the one that is awaited, or how the pairing fails for it.
+pub enum Verdict {
+    Awaited,
+    Wrong(Failure),
 }
 
 // Whether a peer's features are acceptable.

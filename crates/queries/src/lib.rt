@@ -6,7 +6,7 @@ use protocol::Failure;
 use protocol::MaybeBond;
 use responder::Responder;
 ghost use mathlib.Core.Path.{_≡_};
-ghost use Rattle.machine.specs.Step.{encrypted, securityLevel};
+ghost use Rattle.machine.specs.Level.{encrypted, securityLevel};
 ghost use Rattle.queries.specs.Result.{resultOf};
 
 pub enum PairingResult {
@@ -72,21 +72,10 @@ fn encrypted_in(phase: Phase) -> bool
     ensures { λ r. ⌜ r ≡ encrypted phase ⌝ }
 {
     match phase {
-        Phase::WaitingPairingRequest => false,
-        Phase::WaitingPublicKey => false,
-        Phase::WaitingNumericComparisonRandom => false,
-        Phase::WaitingNumericComparisonResult(_held) => false,
-        Phase::WaitingPassKeyInput(_held) => false,
-        Phase::WaitingPassKeyEntryConfirm(_round) => false,
-        Phase::WaitingPassKeyEntryRandom(_round) => false,
-        Phase::WaitingOobData => false,
-        Phase::WaitingOobRandom => false,
-        Phase::WaitingDHKeyEa => false,
-        Phase::WaitingLinkEncrypted => false,
         Phase::WaitingIdentitityInformation => true,
         Phase::WaitingIdentitityAddressInformation => true,
         Phase::Success => true,
-        Phase::Error(_failure) => false,
+        _ => false,
     }
 }
 
@@ -94,20 +83,8 @@ fn result_of(phase: Phase) -> PairingResult
     ensures { λ r. ⌜ r ≡ resultOf phase ⌝ }
 {
     match phase {
-        Phase::WaitingPairingRequest => PairingResult::Running,
-        Phase::WaitingPublicKey => PairingResult::Running,
-        Phase::WaitingNumericComparisonRandom => PairingResult::Running,
-        Phase::WaitingNumericComparisonResult(_held) => PairingResult::Running,
-        Phase::WaitingPassKeyInput(_held) => PairingResult::Running,
-        Phase::WaitingPassKeyEntryConfirm(_round) => PairingResult::Running,
-        Phase::WaitingPassKeyEntryRandom(_round) => PairingResult::Running,
-        Phase::WaitingOobData => PairingResult::Running,
-        Phase::WaitingOobRandom => PairingResult::Running,
-        Phase::WaitingDHKeyEa => PairingResult::Running,
-        Phase::WaitingLinkEncrypted => PairingResult::Running,
-        Phase::WaitingIdentitityInformation => PairingResult::Running,
-        Phase::WaitingIdentitityAddressInformation => PairingResult::Running,
         Phase::Success => PairingResult::Succeeded,
         Phase::Error(failure) => PairingResult::Failed(failure),
+        _ => PairingResult::Running,
     }
 }

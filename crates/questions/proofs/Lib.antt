@@ -1,4 +1,3 @@
 -- What is shown of `questions` beside the proofs of its functions, file by file.
 mod Other
-pub mod Asked
 pub mod Unique

@@ -1,7 +1,5 @@
 // The query: for a state, an input, the drawn values and the answers so far, the next question to the cryptography outside, with all
 // its arguments, or none. It changes nothing and takes no outbox.
-use address::Address;
-use address::AddressKind;
 use machine::Phase;
 use machine::State;
 use method::PairingMethod;
@@ -10,43 +8,35 @@ use protocol::Given;
 use protocol::OobData;
 use protocol::Question;
 use protocol::QuestionKind;
+use protocol::Secrets;
 use protocol::Supplied;
+use protocol::Verdict;
+ghost use Prim.Native.Nat.{ℕ};
 ghost use mathlib.Core.Path.{_≡_};
-ghost use mathlib.Core.Bool.{cond};
-ghost use Rattle.machine.specs.Step.{command, event, ranged};
-ghost use Rattle.machine.specs.Questions.{
-  noQuestion,
-  askDh,
-  askF4,
-  askG2,
-  askF6,
-  kinded,
-  askLtk,
-  askPeerCheck,
-  askOwnCheck,
-  keyAsks,
-  compareAsks,
-  checkAsks,
-  confirmAsks,
-  commandAsks,
-  comparisonAsks,
-  typingAsks,
-  receivedAsks,
-  oobAsks,
-  eventAsks,
-  questions,
-  nextOf,
-};
+ghost use mathlib.Core.List.{List};
+ghost use mathlib.Core.Bool.{true, false, cond};
+ghost use Rattle.protocol.specs.declared.Failure.the-variants as F;
+ghost use Rattle.protocol.specs.Plan.{needs};
+ghost use Rattle.protocol.specs.Parts.{noQuestion};
+ghost use Rattle.protocol.specs.Exchanged.{fresh};
+ghost use Rattle.protocol.specs.Role.{command, event, questions};
+ghost use Rattle.protocol.specs.Next.{nextOf, Queried};
+ghost use Rattle.machine.specs.Exchange.{comparing, begins, onKey};
+ghost use Rattle.machine.specs.Dhkey.{askKeys, askPeerCheck, askOwnCheck, checking, onCheck};
+ghost use Rattle.machine.specs.Numeric.{compares, onComparisonRandom, onComparison};
+ghost use Rattle.machine.specs.Passkey.{confirming, testing, onConfirm, onRandom, onTyping};
+ghost use Rattle.machine.specs.Oob.{receiving, onOobData};
+ghost use Rattle.machine.specs.Responder.{responder, onCommand, onEvent};
 
 // The next question of a command.
 pub fn of_command(state: State, cmd: &[u8], supplied: Supplied, given: Given) -> Question
-    ensures { λ r. ⌜ r ≡ nextOf given (questions state (command (now (cmd .entry))) supplied) ⌝ }
+    ensures { λ r. ⌜ r ≡ nextOf given (questions responder state (command (now (cmd .entry))) supplied) ⌝ }
 {
     if states::finished(state) {
-        return none();
+        return asking::none();
     }
     if cmd.len() == 0 {
-        return none();
+        return asking::none();
     }
     let phase = state.phase;
     let code = cmd[0];
@@ -61,16 +51,16 @@ pub fn of_event(
     supplied: Supplied,
     given: Given,
 ) -> Question
-    ensures { λ r. ⌜ r ≡ nextOf given (questions state (event came values) supplied) ⌝ }
+    ensures { λ r. ⌜ r ≡ nextOf given (questions responder state (event came values) supplied) ⌝ }
 {
     if states::finished(state) {
-        return none();
+        return asking::none();
     }
     if states::in_range(came, values) {
         let phase = state.phase;
         return by_event(phase, state, came, values, supplied, given);
     }
-    none()
+    asking::none()
 }
 
 fn by_command(
@@ -81,7 +71,7 @@ fn by_command(
     supplied: Supplied,
     given: Given,
 ) -> Question
-    ensures { λ r. ⌜ r ≡ nextOf given (commandAsks phase state code (now (payload .entry)) supplied) ⌝ }
+    ensures { λ r. ⌜ Queried given supplied (onCommand phase state code (now (payload .entry))) r ⌝ }
 {
     match phase {
         Phase::WaitingPublicKey => key(state, code, payload, supplied, given),
@@ -103,7 +93,7 @@ fn by_command(
             given,
         ),
         Phase::WaitingDHKeyEa => check(state, code, payload, supplied, given),
-        _ => none(),
+        _ => asking::none(),
     }
 }
 
@@ -115,78 +105,94 @@ fn by_event(
     supplied: Supplied,
     given: Given,
 ) -> Question
-    ensures { λ r. ⌜ r ≡ nextOf given (eventAsks phase state came values supplied) ⌝ }
+    ensures { λ r. ⌜ Queried given supplied (onEvent phase state came values) r ⌝ }
 {
     match phase {
         Phase::WaitingNumericComparisonResult(held) => compared(state, held, came, supplied, given),
         Phase::WaitingPassKeyInput(held) => typed(state, held, came, supplied, given),
-        Phase::WaitingOobData => received(state, came, values, given),
-        _ => none(),
+        Phase::WaitingOobData => received(state, came, values, supplied, given),
+        _ => asking::none(),
     }
 }
 
-// WaitingPublicKey: the DHKey, and behind a valid key our confirm.
+// WaitingPublicKey: the DHKey, and after a valid key our confirm.
 fn key(state: State, code: u8, payload: &[u8], supplied: Supplied, given: Given) -> Question
-    ensures { λ r. ⌜ r ≡ nextOf given (commandAsks Phase.WaitingPublicKey state code (now (payload .entry)) supplied) ⌝ }
+    ensures { λ r. ⌜ Queried given supplied (onKey state code (now (payload .entry))) r ⌝ }
 {
-    if code != 12 {
-        return none();
-    }
-    if payload.len() != 64 {
-        return none();
-    }
-    let x = points::peer_x(payload);
-    if given.dh {
-        if supplied.dhvalid {
-            let method = state.method;
-            return our_confirm(method, state, x, supplied, given);
+    let verdict = payloads::public_key(code, payload);
+    match verdict {
+        Verdict::Wrong(_failure) => asking::none(),
+        Verdict::Awaited => {
+            let x = payloads::peer_x(payload);
+            if given.dh {
+                return first_move(state, x, supplied, given);
+            }
+            asking::dh(x, payloads::peer_y(payload))
         }
-        return none();
     }
-    ask_dh(x, points::peer_y(payload))
 }
 
-fn our_confirm(
+// After a valid key: our confirm, where the method begins with one.
+fn first_move(state: State, x: [u8; 32], supplied: Supplied, given: Given) -> Question
+    ensures { λ r. ⌜ Queried given supplied (needs (supplied .dhvalid) F.DHKeyCheckFailed (begins (state .method) state (fresh x (supplied .dhkey)))) r ⌝ }
+{
+    if supplied.dhvalid {
+        let method = state.method;
+        return own_confirm(method, state, x, supplied, given);
+    }
+    asking::none()
+}
+
+fn own_confirm(
     method: PairingMethod,
     state: State,
     x: [u8; 32],
     supplied: Supplied,
     given: Given,
 ) -> Question
-    ensures { λ r. ⌜ r ≡ nextOf given (keyAsks method state x supplied) ⌝ }
+    ensures { λ r. ⌜ Queried given supplied (begins method state (fresh x (supplied .dhkey))) r ⌝ }
+{
+    match method {
+        PairingMethod::JustWorks => comparing(state, x, supplied, given),
+        PairingMethod::NumericComparison => comparing(state, x, supplied, given),
+        _ => asking::none(),
+    }
+}
+
+fn comparing(state: State, x: [u8; 32], supplied: Supplied, given: Given) -> Question
+    ensures { λ r. ⌜ Queried given supplied (comparing state (fresh x (supplied .dhkey))) r ⌝ }
 {
     let setup = state.setup;
     let own_x = setup.keyx;
     let nonce = supplied.nonce;
-    match method {
-        PairingMethod::JustWorks => unless(
-            given.ownconfirm,
-            ask_f4(QuestionKind::OwnConfirm, own_x, x, nonce, 0),
-        ),
-        PairingMethod::NumericComparison => unless(
-            given.ownconfirm,
-            ask_f4(QuestionKind::OwnConfirm, own_x, x, nonce, 0),
-        ),
-        _ => none(),
-    }
+    unless(
+        given.ownconfirm,
+        asking::f4(QuestionKind::OwnConfirm, own_x, x, nonce, 0),
+    )
 }
 
 // WaitingNumericComparisonRandom: the number to compare, which Just Works has none of.
 fn comparison(state: State, code: u8, payload: &[u8], supplied: Supplied, given: Given) -> Question
-    ensures { λ r. ⌜ r ≡ nextOf given (commandAsks Phase.WaitingNumericComparisonRandom state code (now (payload .entry)) supplied) ⌝ }
+    ensures { λ r. ⌜ Queried given supplied (onComparisonRandom state code (now (payload .entry))) r ⌝ }
 {
-    if code != 4 {
-        return none();
+    let verdict = payloads::random(code, payload);
+    match verdict {
+        Verdict::Wrong(_failure) => asking::none(),
+        Verdict::Awaited => {
+            let method = state.method;
+            number(method, state, octets::reversed16(payload), supplied, given)
+        }
     }
-    if payload.len() != 16 {
-        return none();
-    }
-    let method = state.method;
-    compared_number(method, state, octets::reversed16(payload), given)
 }
 
-fn compared_number(method: PairingMethod, state: State, nonce: [u8; 16], given: Given) -> Question
-    ensures { λ r. ⌜ r ≡ nextOf given (compareAsks method state nonce) ⌝ }
+fn number(
+    method: PairingMethod,
+    state: State,
+    nonce: [u8; 16],
+    supplied: Supplied,
+    given: Given,
+) -> Question
+    ensures { λ r. ⌜ Queried given supplied (compares method state nonce) r ⌝ }
 {
     let setup = state.setup;
     let secrets = state.secrets;
@@ -194,8 +200,8 @@ fn compared_number(method: PairingMethod, state: State, nonce: [u8; 16], given: 
     let peer_x = secrets.peerx;
     let own_nonce = secrets.ownnonce;
     match method {
-        PairingMethod::JustWorks => none(),
-        _ => unless(given.g2, ask_g2(peer_x, own_x, nonce, own_nonce)),
+        PairingMethod::JustWorks => asking::none(),
+        _ => unless(given.g2, asking::g2(peer_x, own_x, nonce, own_nonce)),
     }
 }
 
@@ -208,36 +214,36 @@ fn confirm(
     supplied: Supplied,
     given: Given,
 ) -> Question
-    ensures { λ r. ⌜ r ≡ nextOf given (commandAsks (Phase.WaitingPassKeyEntryConfirm round) state code (now (payload .entry)) supplied) ⌝ }
+    ensures { λ r. ⌜ Queried given supplied (onConfirm state round code (now (payload .entry))) r ⌝ }
 {
-    if code != 3 {
-        return none();
+    let verdict = payloads::confirm(code, payload);
+    match verdict {
+        Verdict::Wrong(_failure) => asking::none(),
+        Verdict::Awaited => {
+            let secrets = state.secrets;
+            round_confirm(state, secrets, round, supplied, given)
+        }
     }
-    if payload.len() != 16 {
-        return none();
-    }
-    let secrets = state.secrets;
-    round_confirm(state, secrets.passkey, round, supplied, given)
 }
 
+// Our confirm of a round, whatever the peer's is.
 fn round_confirm(
     state: State,
-    passkey: u32,
+    secrets: Secrets,
     round: u8,
     supplied: Supplied,
     given: Given,
 ) -> Question
-    ensures { λ r. ⌜ r ≡ nextOf given (confirmAsks state passkey round supplied) ⌝ }
+    ensures { λ r. ⌜ ((value : List ℕ) → Queried given supplied (confirming state secrets round value) r) ⌝ }
 {
     let setup = state.setup;
-    let secrets = state.secrets;
     let own_x = setup.keyx;
     let peer_x = secrets.peerx;
     let nonce = supplied.nonce;
-    let z = rounds::z(passkey, round);
+    let z = rounds::z(secrets.passkey, round);
     unless(
         given.ownconfirm,
-        ask_f4(QuestionKind::OwnConfirm, own_x, peer_x, nonce, z),
+        asking::f4(QuestionKind::OwnConfirm, own_x, peer_x, nonce, z),
     )
 }
 
@@ -250,126 +256,143 @@ fn random(
     supplied: Supplied,
     given: Given,
 ) -> Question
-    ensures { λ r. ⌜ r ≡ nextOf given (commandAsks (Phase.WaitingPassKeyEntryRandom round) state code (now (payload .entry)) supplied) ⌝ }
+    ensures { λ r. ⌜ Queried given supplied (onRandom state round code (now (payload .entry))) r ⌝ }
 {
-    if code != 4 {
-        return none();
+    let verdict = payloads::random(code, payload);
+    match verdict {
+        Verdict::Wrong(_failure) => asking::none(),
+        Verdict::Awaited => peer_confirm(
+            state,
+            round,
+            octets::reversed16(payload),
+            supplied,
+            given,
+        ),
     }
-    if payload.len() != 16 {
-        return none();
-    }
+}
+
+fn peer_confirm(
+    state: State,
+    round: u8,
+    nonce: [u8; 16],
+    supplied: Supplied,
+    given: Given,
+) -> Question
+    ensures { λ r. ⌜ Queried given supplied (testing state round nonce) r ⌝ }
+{
     let setup = state.setup;
     let secrets = state.secrets;
     let own_x = setup.keyx;
     let peer_x = secrets.peerx;
-    let peer_nonce = octets::reversed16(payload);
     let z = rounds::z(secrets.passkey, round);
     unless(
         given.peerconfirm,
-        ask_f4(QuestionKind::PeerConfirm, peer_x, own_x, peer_nonce, z),
+        asking::f4(QuestionKind::PeerConfirm, peer_x, own_x, nonce, z),
     )
 }
 
 // WaitingDHKeyEa: a check of a wrong length asks as much as a wrong check.
 fn check(state: State, code: u8, payload: &[u8], supplied: Supplied, given: Given) -> Question
-    ensures { λ r. ⌜ r ≡ nextOf given (commandAsks Phase.WaitingDHKeyEa state code (now (payload .entry)) supplied) ⌝ }
+    ensures { λ r. ⌜ Queried given supplied (onCheck state code (now (payload .entry))) r ⌝ }
 {
-    if code != 13 {
-        return none();
+    if code != frames::DHKEY_CHECK {
+        return asking::none();
     }
-    if payload.len() != 16 {
-        return check_value(state, false, [0u8; 16], supplied, given);
+    if payloads::is_value(payload) {
+        return check_value(state, octets::reversed16(payload), supplied, given);
     }
-    check_value(state, true, octets::reversed16(payload), supplied, given)
+    peer_check(state, supplied, given)
 }
 
 // f5, then the peer's check, then ours where the peer's is right.
-fn check_value(
-    state: State,
-    whole: bool,
-    value: [u8; 16],
-    supplied: Supplied,
-    given: Given,
-) -> Question
-    ensures { λ r. ⌜ r ≡ nextOf given (checkAsks state whole value supplied) ⌝ }
+fn check_value(state: State, value: [u8; 16], supplied: Supplied, given: Given) -> Question
+    ensures { λ r. ⌜ Queried given supplied (checking state true value) r ⌝ }
 {
     if given.f5 {
         if given.peercheck {
-            if whole {
-                let right = supplied.peercheck;
-                if octets::equal16(value, right) {
-                    return unless(given.owncheck, ask_own_check(state, supplied));
-                }
-                return none();
+            let right = supplied.peercheck;
+            if octets::equal16(value, right) {
+                return unless(given.owncheck, ask_own_check(state, supplied));
             }
-            return none();
+            return asking::none();
         }
         return ask_peer_check(state, supplied);
     }
-    ask_ltk(state)
+    ask_keys(state)
+}
+
+// f5 and the peer's check, where it is known to be wrong.
+fn peer_check(state: State, supplied: Supplied, given: Given) -> Question
+    ensures { λ r. ⌜ ((value : List ℕ) → Queried given supplied (checking state false value) r) ⌝ }
+{
+    if given.f5 {
+        return unless(given.peercheck, ask_peer_check(state, supplied));
+    }
+    ask_keys(state)
 }
 
 // WaitingNumericComparisonResult: a held check is handled on the user's yes.
 fn compared(state: State, held: bool, came: Event, supplied: Supplied, given: Given) -> Question
-    ensures { λ r. ⌜ r ≡ nextOf given (comparisonAsks state held came supplied) ⌝ }
+    ensures { λ r. ⌜ Queried given supplied (onComparison state held came) r ⌝ }
 {
     match came {
         Event::PassKeyConfirm => {
             if held {
                 let secrets = state.secrets;
                 let early = secrets.held;
-                return check_value(state, true, early, supplied, given);
+                return check_value(state, early, supplied, given);
             }
-            none()
+            asking::none()
         }
-        _ => none(),
+        _ => asking::none(),
     }
 }
 
 // WaitingPassKeyInput: a held confirm is handled as round 0's.
 fn typed(state: State, held: bool, came: Event, supplied: Supplied, given: Given) -> Question
-    ensures { λ r. ⌜ r ≡ nextOf given (typingAsks state held came supplied) ⌝ }
+    ensures { λ r. ⌜ Queried given supplied (onTyping state held came) r ⌝ }
 {
     match came {
         Event::PassKeyInput(passkey) => {
             if held {
-                return round_confirm(state, passkey, 0, supplied, given);
+                let secrets = state.secrets;
+                let keyed = states::with_passkey(secrets, passkey);
+                return round_confirm(state, keyed, 0, supplied, given);
             }
-            none()
+            asking::none()
         }
-        _ => none(),
+        _ => asking::none(),
     }
 }
 
 // WaitingOobData: the peer's confirm, where the peer's data is there.
-fn received(state: State, came: Event, values: OobData, given: Given) -> Question
-    ensures { λ r. ⌜ r ≡ nextOf given (receivedAsks state came values) ⌝ }
+fn received(
+    state: State,
+    came: Event,
+    values: OobData,
+    supplied: Supplied,
+    given: Given,
+) -> Question
+    ensures { λ r. ⌜ Queried given supplied (onOobData state came values) r ⌝ }
 {
     match came {
-        Event::OobDataReceived => peer_data(state, values, given),
-        _ => none(),
+        Event::OobDataReceived => peer_data(state, values, supplied, given),
+        _ => asking::none(),
     }
 }
 
-fn peer_data(state: State, values: OobData, given: Given) -> Question
-    ensures { λ r. ⌜ r ≡ nextOf given (oobAsks state values) ⌝ }
+fn peer_data(state: State, values: OobData, supplied: Supplied, given: Given) -> Question
+    ensures { λ r. ⌜ Queried given supplied (receiving state values) r ⌝ }
 {
+    if oob::absent(values) {
+        return asking::none();
+    }
     let secrets = state.secrets;
     let peer_x = secrets.peerx;
     let random = values.peerrandom;
-    let confirm = values.peerconfirm;
-    if octets::all_zero16(random) {
-        if octets::all_zero16(confirm) {
-            return none();
-        }
-        return unless(
-            given.peerconfirm,
-            ask_f4(QuestionKind::PeerConfirm, peer_x, peer_x, random, 0),
-        );
-    }
     unless(
         given.peerconfirm,
-        ask_f4(QuestionKind::PeerConfirm, peer_x, peer_x, random, 0),
+        asking::f4(QuestionKind::PeerConfirm, peer_x, peer_x, random, 0),
     )
 }
 
@@ -378,13 +401,13 @@ fn unless(given: bool, question: Question) -> Question
     ensures { λ r. ⌜ r ≡ cond given noQuestion question ⌝ }
 {
     if given {
-        return none();
+        return asking::none();
     }
     question
 }
 
-fn ask_ltk(state: State) -> Question
-    ensures { λ r. ⌜ r ≡ askLtk state ⌝ }
+fn ask_keys(state: State) -> Question
+    ensures { λ r. ⌜ r ≡ askKeys state ⌝ }
 {
     let setup = state.setup;
     let secrets = state.secrets;
@@ -393,17 +416,11 @@ fn ask_ltk(state: State) -> Question
     let own_nonce = secrets.ownnonce;
     let peer = setup.peer;
     let own = setup.own;
-    let mut question = none();
-    question.u = dhkey;
-    question.n1 = peer_nonce;
-    question.n2 = own_nonce;
-    question.a1 = peer;
-    question.a2 = own;
-    of_kind(QuestionKind::F5, question)
+    asking::f5(dhkey, peer_nonce, own_nonce, peer, own)
 }
 
 fn ask_peer_check(state: State, supplied: Supplied) -> Question
-    ensures { λ r. ⌜ r ≡ askPeerCheck state supplied ⌝ }
+    ensures { λ r. ⌜ r ≡ askPeerCheck state (supplied .mackey) ⌝ }
 {
     let setup = state.setup;
     let secrets = state.secrets;
@@ -415,7 +432,7 @@ fn ask_peer_check(state: State, supplied: Supplied) -> Question
     let iocap = features.io_cap();
     let peer = setup.peer;
     let own = setup.own;
-    ask_f6(
+    asking::f6(
         QuestionKind::PeerCheck,
         key,
         peer_nonce,
@@ -428,12 +445,12 @@ fn ask_peer_check(state: State, supplied: Supplied) -> Question
 }
 
 fn ask_own_check(state: State, supplied: Supplied) -> Question
-    ensures { λ r. ⌜ r ≡ askOwnCheck state supplied ⌝ }
+    ensures { λ r. ⌜ r ≡ askOwnCheck state (supplied .mackey) ⌝ }
 {
     let setup = state.setup;
     let secrets = state.secrets;
     let features = state.features;
-    let ours = request::local_features(setup, features);
+    let ours = request::own_features(setup, features);
     let key = supplied.mackey;
     let peer_nonce = secrets.peernonce;
     let own_nonce = secrets.ownnonce;
@@ -441,7 +458,7 @@ fn ask_own_check(state: State, supplied: Supplied) -> Question
     let iocap = ours.io_cap();
     let peer = setup.peer;
     let own = setup.own;
-    ask_f6(
+    asking::f6(
         QuestionKind::OwnCheck,
         key,
         own_nonce,
@@ -451,108 +468,4 @@ fn ask_own_check(state: State, supplied: Supplied) -> Question
         own,
         peer,
     )
-}
-
-fn ask_dh(x: [u8; 32], y: [u8; 32]) -> Question
-    ensures { λ r. ⌜ r ≡ askDh x y ⌝ }
-{
-    let mut question = none();
-    question.u = x;
-    question.v = y;
-    of_kind(QuestionKind::DH, question)
-}
-
-fn ask_f4(kind: QuestionKind, u: [u8; 32], v: [u8; 32], x: [u8; 16], z: u8) -> Question
-    ensures { λ r. ⌜ r ≡ askF4 kind u v x z ⌝ }
-{
-    let mut question = none();
-    question.u = u;
-    question.v = v;
-    question.n1 = x;
-    question.z = z;
-    of_kind(kind, question)
-}
-
-fn ask_g2(u: [u8; 32], v: [u8; 32], x: [u8; 16], y: [u8; 16]) -> Question
-    ensures { λ r. ⌜ r ≡ askG2 u v x y ⌝ }
-{
-    let mut question = none();
-    question.u = u;
-    question.v = v;
-    question.n1 = x;
-    question.n2 = y;
-    of_kind(QuestionKind::G2, question)
-}
-
-fn ask_f6(
-    kind: QuestionKind,
-    key: [u8; 16],
-    n1: [u8; 16],
-    n2: [u8; 16],
-    r: [u8; 16],
-    iocap: [u8; 3],
-    a1: Address,
-    a2: Address,
-) -> Question
-    ensures { λ q. ⌜ q ≡ askF6 kind key n1 n2 r iocap a1 a2 ⌝ }
-{
-    let mut question = none();
-    question.key = key;
-    question.n1 = n1;
-    question.n2 = n2;
-    question.r = r;
-    question.iocap = iocap;
-    question.a1 = a1;
-    question.a2 = a2;
-    of_kind(kind, question)
-}
-
-// A question's arguments under a kind.
-fn of_kind(kind: QuestionKind, question: Question) -> Question
-    ensures { λ r. ⌜ r ≡ kinded kind question ⌝ }
-{
-    let u = question.u;
-    let v = question.v;
-    let key = question.key;
-    let n1 = question.n1;
-    let n2 = question.n2;
-    let r = question.r;
-    let iocap = question.iocap;
-    let a1 = question.a1;
-    let a2 = question.a2;
-    Question {
-        kind,
-        u,
-        v,
-        key,
-        n1,
-        n2,
-        r,
-        z: question.z,
-        iocap,
-        a1,
-        a2,
-    }
-}
-
-fn none() -> Question
-    ensures { λ r. ⌜ r ≡ noQuestion ⌝ }
-{
-    let nowhere = Address {
-        kind: AddressKind::Public,
-        octets: [0u8; 6],
-    };
-    Question {
-        kind: QuestionKind::Nothing,
-        u: [0u8; 32],
-        v: [0u8; 32],
-        key: [0u8; 16],
-        n1: [0u8; 16],
-        n2: [0u8; 16],
-        r: [0u8; 16],
-        z: 0,
-        iocap: [0u8; 3],
-        a1: nowhere,
-        a2: nowhere,
-    }
 }

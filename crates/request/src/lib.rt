@@ -4,6 +4,7 @@ use features::Decoded;
 use features::IoCapabilities;
 use features::PairingFeatures;
 use machine::Phase;
+use machine::Progress;
 use machine::State;
 use machine::Step;
 use protocol::Acceptance;
@@ -15,8 +16,11 @@ ghost use mathlib.Core.Path.{_≡_};
 ghost use mathlib.Core.Bool.{cond, not, _&&_};
 ghost use Rattle.octets.specs.Octets.{allZero};
 ghost use Rattle.features.specs.Bits.{identityBit};
-ghost use Rattle.machine.specs.Outcome.{Met};
-ghost use Rattle.machine.specs.Request.{acceptOf, interactive, localFeatures, lost, accepting, requestOf};
+ghost use Rattle.protocol.specs.declared.Supplied.{Supplied};
+ghost use Rattle.protocol.specs.Plan.{ends};
+ghost use Rattle.protocol.specs.Parts.{acceptOf, accepting};
+ghost use Rattle.machine.specs.Request.{interactive, ownFeatures, lost, responding, onRequest};
+ghost use Rattle.machine.specs.Responder.{Follows};
 
 // The tests of a request, in their order: six octets that say features, Secure Connections, a key size of at least 16.
 pub fn accept(payload: &[u8]) -> Acceptance
@@ -38,8 +42,8 @@ pub fn accept(payload: &[u8]) -> Acceptance
 }
 
 // What we say of ourselves to a peer. Its identity bits set ours, the responder's only if we have an IRK.
-pub fn local_features(setup: Setup, peer: PairingFeatures) -> PairingFeatures
-    ensures { λ r. ⌜ r ≡ localFeatures setup peer ⌝ }
+pub fn own_features(setup: Setup, peer: PairingFeatures) -> PairingFeatures
+    ensures { λ r. ⌜ r ≡ ownFeatures setup peer ⌝ }
 {
     let io = setup.io;
     let oob = setup.oob;
@@ -56,33 +60,32 @@ pub fn local_features(setup: Setup, peer: PairingFeatures) -> PairingFeatures
 
 // A command in WaitingPairingRequest.
 pub fn request(state: State, code: u8, payload: &[u8], out: &mut [u8]) -> Step
-    ensures { λ r. ⌜ Met (requestOf state code (now (payload .entry))) r (now (out .entry)) (now (out .exit)) ⌝ }
+    ensures { λ r. ⌜ ((a : Supplied) → Follows state a (onRequest state code (now (payload .entry))) r (now (out .entry)) (now (out .exit))) ⌝ }
 {
-    if code != 1 {
-        return outcome::failed(state, Failure::InvalidState);
+    if code != frames::PAIRING_REQUEST {
+        return states::failed(state, Failure::InvalidState);
     }
     answer(state, accept(payload), out)
 }
 
 // The request is answered with our features; a known bond is lost either way.
 fn answer(state: State, acceptance: Acceptance, out: &mut [u8]) -> Step
-    ensures { λ r. ⌜ Met (accepting state acceptance) r (now (out .entry)) (now (out .exit)) ⌝ }
+    ensures { λ r. ⌜ ((a : Supplied) → Follows state a (accepting (lost state) acceptance λ f. ends (responding state f)) r (now (out .entry)) (now (out .exit))) ⌝ }
 {
     match acceptance {
-        Acceptance::Rejected(failure) => outcome::failed_after(state, lost_bond(state), failure),
+        Acceptance::Rejected(failure) => states::failed_after(state, lost_bond(state), failure),
         Acceptance::Accepted(peer) => {
             let setup = state.setup;
-            let local = local_features(setup, peer);
-            let sent = frames::pairing_response(out, local);
+            let own = own_features(setup, peer);
+            let sent = frames::pairing_response(out, own);
             let secrets = state.secrets;
             let bond = state.bond;
             let address = state.peer;
             Step {
-                state: State {
+                progress: Progress {
                     phase: Phase::WaitingPublicKey,
-                    setup,
                     features: peer,
-                    method: method::choose_pairing_method(peer, local),
+                    method: method::choose_pairing_method(peer, own),
                     secrets,
                     bond,
                     peer: address,

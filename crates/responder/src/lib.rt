@@ -14,10 +14,12 @@ use protocol::Question;
 use protocol::Supplied;
 ghost use mathlib.Core.Path.{_≡_};
 ghost use lib.ListN.{length};
-ghost use Rattle.machine.specs.Step.{command, event, step, timedOut};
-ghost use Rattle.machine.specs.Questions.{questions, nextOf};
-ghost use Rattle.front.specs.Calls.{commandCall, eventCall};
-ghost use Rattle.responder.specs.Calls.{responderOf, steppedOf, Stands};
+ghost use Rattle.frames.specs.Packets.{channel};
+ghost use Rattle.protocol.specs.Role.{command, event, step, questions, timedOut};
+ghost use Rattle.protocol.specs.Next.{nextOf};
+ghost use Rattle.protocol.specs.Met.{Met};
+ghost use Rattle.machine.specs.Responder.{responder};
+ghost use Rattle.responder.specs.Calls.{commandCall, eventCall, responderOf, steppedOf, handedOf};
 
 pub struct Responder {
     pub state: State,
@@ -33,25 +35,25 @@ pub struct Stepped {
 }
 
 impl Responder {
-    // A command from the peer: its code, and its payload behind it.
+    // A command from the peer: its code, and its payload after it.
     pub fn command(self, cmd: &[u8], supplied: Supplied, out: &mut [u8]) -> Stepped
-        ensures { λ r. ⌜ Stands (step (self .state) (commandCall (now (cmd .entry)) supplied (length (now (out .entry))))) r (now (out .entry)) (now (out .exit)) ⌝ }
+        ensures { λ r. ⌜ Met steppedOf channel (step responder (self .state) (commandCall (now (cmd .entry)) supplied (length (now (out .entry))))) r (now (out .entry)) (now (out .exit)) ⌝ }
     {
         let state = self.state;
-        handed_back(front::on_command(state, cmd, supplied, out))
+        handed_back(self, front::on_command(state, cmd, supplied, out))
     }
 
     // An event from the user or the link, with the out-of-band values beside it.
     pub fn event(self, came: Event, values: OobData, supplied: Supplied, out: &mut [u8]) -> Stepped
-        ensures { λ r. ⌜ Stands (step (self .state) (eventCall came values supplied (length (now (out .entry))))) r (now (out .entry)) (now (out .exit)) ⌝ }
+        ensures { λ r. ⌜ Met steppedOf channel (step responder (self .state) (eventCall came values supplied (length (now (out .entry))))) r (now (out .entry)) (now (out .exit)) ⌝ }
     {
         let state = self.state;
-        handed_back(front::on_event(state, came, values, supplied, out))
+        handed_back(self, front::on_event(state, came, values, supplied, out))
     }
 
     // The next question that a command asks, given the answers so far.
     pub fn command_question(self, cmd: &[u8], supplied: Supplied, given: Given) -> Question
-        ensures { λ r. ⌜ r ≡ nextOf given (questions (self .state) (command (now (cmd .entry))) supplied) ⌝ }
+        ensures { λ r. ⌜ r ≡ nextOf given (questions responder (self .state) (command (now (cmd .entry))) supplied) ⌝ }
     {
         let state = self.state;
         questions::of_command(state, cmd, supplied, given)
@@ -65,7 +67,7 @@ impl Responder {
         supplied: Supplied,
         given: Given,
     ) -> Question
-        ensures { λ r. ⌜ r ≡ nextOf given (questions (self .state) (event came values) supplied) ⌝ }
+        ensures { λ r. ⌜ r ≡ nextOf given (questions responder (self .state) (event came values) supplied) ⌝ }
     {
         let state = self.state;
         questions::of_event(state, came, values, supplied, given)
@@ -73,27 +75,35 @@ impl Responder {
 
     // Thirty seconds passed with nothing taken: the pairing fails, unless it is finished. This is no input and raises no event.
     pub fn mark_timeout(self) -> Responder
-        ensures { λ r. ⌜ r ≡ responderOf (timedOut (self .state)) ⌝ }
+        ensures { λ r. ⌜ r ≡ responderOf (timedOut responder (self .state)) ⌝ }
     {
         let state = self.state;
         if states::finished(state) {
             return self;
         }
+        let setup = state.setup;
         let ended = states::at(state, Phase::Error(Failure::Timeout));
-        Responder { state: ended }
+        Responder {
+            state: states::joined(setup, ended),
+        }
     }
 }
 
-fn handed_back(done: Step) -> Stepped
-    ensures { λ r. ⌜ r ≡ steppedOf done ⌝ }
+// A step of a responder, with the setup, which no step changes.
+fn handed_back(before: Responder, done: Step) -> Stepped
+    ensures { λ r. ⌜ r ≡ handedOf (before .state .setup) done ⌝ }
 {
-    let state = done.state;
+    let state = before.state;
+    let setup = state.setup;
+    let progress = done.progress;
     let first = done.first;
     let second = done.second;
     let action = done.action;
     let answer = done.answer;
     Stepped {
-        responder: Responder { state },
+        responder: Responder {
+            state: states::joined(setup, progress),
+        },
         sent: done.sent,
         first,
         second,

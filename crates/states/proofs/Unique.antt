@@ -7,9 +7,18 @@ use Rattle.states.proofs.with_passkey.Reads as with-passkey
 use Rattle.states.proofs.no_bond.Reads as no-bond
 use Rattle.states.proofs.no_action.Reads as no-action
 use Rattle.states.proofs.in_range.Reads as in-range
+use Rattle.states.proofs.refused.Reads as refused
+use Rattle.states.proofs.failed.Reads as failed
+use Rattle.states.proofs.failed_after.Reads as failed-after
+use Rattle.states.proofs.goes.Reads as goes
+use Rattle.states.proofs.succeeded.Reads as succeeded
+use Rattle.states.proofs.joined.Reads as joined
 
 pub at-unique : Unique at.Post
 at-unique κs a z z′ e e′ p q = only p q
+
+pub joined-unique : Unique joined.Post
+joined-unique κs a z z′ e e′ p q = only p q
 
 pub finished-unique : Unique finished.Post
 finished-unique κs a z z′ e e′ p q = only p q
@@ -28,3 +37,18 @@ no-action-unique κs a z z′ e e′ p q = only p q
 
 pub in-range-unique : Unique in-range.Post
 in-range-unique κs a z z′ e e′ p q = only p q
+
+pub refused-unique : Unique refused.Post
+refused-unique κs a z z′ e e′ p q = only p q
+
+pub failed-unique : Unique failed.Post
+failed-unique κs a z z′ e e′ p q = only p q
+
+pub failed-after-unique : Unique failed-after.Post
+failed-after-unique κs a z z′ e e′ p q = only p q
+
+pub goes-unique : Unique goes.Post
+goes-unique κs a z z′ e e′ p q = only p q
+
+pub succeeded-unique : Unique succeeded.Post
+succeeded-unique κs a z z′ e e′ p q = only p q

@@ -1,7 +1,7 @@
 -- How a pairing begins: awaiting a request, or asking for one with a Security Request (Part H 2.4.6, 3.6.7).
 use Prim.Native.Nat.{ℕ}
 use mathlib.Core.Path.{_≡_}
-use mathlib.Core.List.{List, []}
+use mathlib.Core.List.{List, [], _∷_}
 use mathlib.Core.Bool.{Bool, true, false, cond}
 use lib.Dec.{ltb}
 use Rattle.octets.specs.Write.{laid, wrote}
@@ -9,7 +9,7 @@ use Rattle.rounds.specs.Rounds.{inRange}
 use Rattle.features.specs.Bits.{ourAuthReq}
 use Rattle.method.specs.declared.SecurityLevel.{SecurityLevel}
 use Rattle.method.specs.declared.SecurityLevel.the-variants.{NoEncryption, Encrypted, EncryptedAuthenticated}
-use Rattle.frames.specs.Frames.{securityRequest}
+use Rattle.frames.specs.Packets.{Packet, securityRequest, framed, channel}
 use Rattle.protocol.specs.declared.Refusal.{Refusal}
 use Rattle.protocol.specs.declared.Refusal.the-variants as R
 use Rattle.protocol.specs.declared.Failure.the-variants as F
@@ -18,9 +18,9 @@ use Rattle.protocol.specs.declared.Configured.the-variants as C
 use Rattle.protocol.specs.declared.Setup.{Setup}
 use Rattle.machine.specs.declared.Phase.the-variants as P
 use Rattle.machine.specs.declared.State.{State}
-use Rattle.machine.specs.Outcome.{at}
+use Rattle.protocol.specs.Role.{enough}
+use Rattle.machine.specs.State.{at, freshState}
 use Rattle.machine.specs.Request.{interactive}
-use Rattle.machine.specs.Fresh.{freshState}
 use Rattle.responder.specs.Calls.{responderOf}
 use Rattle.wrapper.specs.declared.Start.{Start}
 use Rattle.wrapper.specs.declared.Start.the-variants as S
@@ -29,16 +29,17 @@ use Rattle.wrapper.specs.declared.Begun.{Begun}
 -- what a start comes to
 pub record Beginning : Type 0 where
   pub next : State
-  pub frames : List ℕ
+  pub packets : List Packet
   pub answer : Start
 
+-- as it is given back, with n octets in the outbox
 abbrev pub begunOf : Beginning → ℕ → Begun
 begunOf b n = record { responder = responderOf (b .next); sent = n; answer = b .answer }
 
 -- the contract of a start that is lent an outbox
 pub record Opened (b : Beginning) (r : Begun) (before after : List ℕ) : Type 0 where
-  pub begun : r ≡ begunOf b (wrote (b .frames) before)
-  pub out : after ≡ laid (b .frames) before
+  pub begun : r ≡ begunOf b (wrote (framed channel (b .packets)) before)
+  pub out : after ≡ laid (framed channel (b .packets)) before
 
 -- a machine that was started
 abbrev pub startedOf : State → ℕ → Begun
@@ -49,17 +50,21 @@ abbrev pub suits : Configured → Bool
 suits C.Nothing = true
 suits (C.Passkey p) = inRange p
 
--- a fresh machine, with frames
-unfoldable pub started : Setup → List ℕ → Beginning
-started s frames = record { next = freshState s; frames = frames; answer = S.Started }
+-- a fresh machine, with packets
+abbrev pub started : Setup → List Packet → Beginning
+started s ps = record { next = freshState s; packets = ps; answer = S.Started }
 
--- a refused start: a machine in Error 16, and nothing written
+-- a refused start: a machine in Error 16, and nothing sent
 unfoldable pub startRefused : Setup → Refusal → Beginning
-startRefused s x = record { next = at (freshState s) (P.Error F.InvalidState); frames = []; answer = S.Refused x }
+startRefused s x = record { next = at (freshState s) (P.Error F.InvalidState); packets = []; answer = S.Refused x }
 
--- a start that awaits a request: R3 for a configured passkey out of range
-unfoldable pub startOf : Setup → Beginning
-startOf s = cond (suits (s .passkey)) (started s []) (startRefused s R.PasskeyRange)
+-- a start with packets: R3 for a configured passkey out of range
+unfoldable pub starting : Setup → List Packet → Beginning
+starting s ps = cond (suits (s .passkey)) (started s ps) (startRefused s R.PasskeyRange)
+
+-- a start that awaits a request
+abbrev pub startOf : Setup → Beginning
+startOf s = starting s []
 
 abbrev pub authenticated : SecurityLevel → Bool
 authenticated NoEncryption = false
@@ -71,13 +76,7 @@ abbrev pub asksMitm : Setup → Bool → Bool
 asksMitm s true = interactive (s .io)
 asksMitm s false = cond (s .known .there) (authenticated (s .known .bond .level)) (interactive (s .io))
 
--- a frame behind a start that began; a refused one stays as it is
-abbrev pub sending : Start → Beginning → List ℕ → Beginning
-sending S.Started b frames = record { next = b .next; frames = frames; answer = S.Started }
-sending (S.Refused x) b frames = b
-
 -- a start with a Security Request: R2, then as a plain one
 unfoldable pub initiateOf : Setup → Bool → ℕ → Beginning
 initiateOf s user room =
-    cond (ltb room 90) (startRefused s R.OutboxShort)
-    (sending ((startOf s) .answer) (startOf s) (securityRequest (ourAuthReq (s .bonding) (asksMitm s user))))
+    cond (ltb room enough) (startRefused s R.OutboxShort) (starting s (securityRequest (ourAuthReq (s .bonding) (asksMitm s user)) ∷ []))

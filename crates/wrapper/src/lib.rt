@@ -10,12 +10,11 @@ use protocol::Configured;
 use protocol::Failure;
 use protocol::MaybeBond;
 use protocol::Refusal;
-use protocol::Secrets;
 use protocol::Setup;
 use responder::Responder;
 ghost use mathlib.Core.Path.{_≡_};
 ghost use lib.ListN.{length};
-ghost use Rattle.machine.specs.Fresh.{freshState};
+ghost use Rattle.machine.specs.State.{freshState};
 ghost use Rattle.wrapper.specs.Starts.{begunOf, startedOf, Opened, suits, startRefused, startOf, authenticated, asksMitm, initiateOf};
 
 pub enum Start {
@@ -44,7 +43,7 @@ pub fn new_peripheral(setup: Setup) -> Begun
 pub fn initiate_peripheral(setup: Setup, user: bool, out: &mut [u8]) -> Begun
     ensures { λ r. ⌜ Opened (initiateOf setup user (length (now (out .entry)))) r (now (out .entry)) (now (out .exit)) ⌝ }
 {
-    if out.len() < 90 {
+    if out.len() < protocol::ENOUGH {
         return refused(setup, Refusal::OutboxShort);
     }
     let begun = new_peripheral(setup);
@@ -106,7 +105,9 @@ fn refused(setup: Setup, refusal: Refusal) -> Begun
     let state = fresh(setup);
     let ended = states::at(state, Phase::Error(Failure::InvalidState));
     Begun {
-        responder: Responder { state: ended },
+        responder: Responder {
+            state: states::joined(setup, ended),
+        },
         sent: 0,
         answer: Start::Refused(refusal),
     }

@@ -13,7 +13,7 @@ returns-3 : tie.Need-returns-3
 returns-3 c = rw (c .before .before .before .before .before .method .given .1) (c .before .before .enter .ensures)
 
 returns-4 : tie.Need-returns-4
-returns-4 c = rw (c .before .before .before .before .enum-told3 .given .1) (c .before .before .send-key .ensures)
+returns-4 c = rw (c .before .before .before .before .enum-told3 .given .1) (c .before .before .send-key .ensures _)
 
 pub begin-spec : {M : Type 1} → statement M
 begin-spec =

@@ -4,7 +4,7 @@ use mathlib.Core.Path.{_∙_, ap}
 use native.Mathlib.Omega.{arith}
 use lib.ListN.{length-set}
 use Rattle.octets.proofs.Write.{over-sets}
-use Rattle.frames.specs.Frames.{head}
+use Rattle.frames.specs.Packets.{channel, head}
 use Rattle.frames.proofs.Frames.{small-head}
 use borrow.Author.Needs.{needs}
 use Rattle.frames.proofs.header.Statement.{statement}

@@ -3,7 +3,7 @@ use mathlib.Core.Path.{_≡_, refl, ap, _∙_}
 use Prim.Native.Nat.{suc}
 use lib.ListN.{length}
 use Rattle.octets.proofs.Write.{then-part}
-use Rattle.frames.proofs.Frames.{length-value, no-frame, framed}
+use Rattle.frames.proofs.Frames.{length-value, no-frame, whole-frame}
 use borrow.Author.Needs.{needs}
 use Rattle.frames.proofs.identity_address.Statement.{statement}
 use Rattle.frames.proofs.identity_address.Tie as tie
@@ -16,7 +16,7 @@ returns c =
 returns-2 : tie.Need-returns-2
 returns-2 c =
     let v : length (c .before .before .before .before .before .before .before .before .before .before .before .before .before .args .address .octets) ≡ 6 = search needs in
-    framed _ 7 _ _ (ap suc (length-value _ 6 v)) _ (c .before .before .before .before .before .before .before .before .before .before .before .if1 .left)
+    whole-frame _ 7 _ _ (ap suc (length-value _ 6 v)) _ (c .before .before .before .before .before .before .before .before .before .before .before .if1 .left)
     (rw (← c .before .before .before .before .before .before .before .before .kind-number .ensures)
     (then-part _ _ 6 refl _ _ _ 6 _ (length-value _ 6 v) (c .before .before .before .before .before .before .before .before .before .before .before .if1 .left) (c .before .before .before .before .before .before .before .header-and .ensures) (c .before .before .put-reversed .ensures)))
 

@@ -3,7 +3,7 @@ use mathlib.Core.Path.{_≡_, refl, ap}
 use lib.ListN.{length}
 use mathlib.Core.Path.{refl}
 use Rattle.octets.proofs.Write.{then-part}
-use Rattle.frames.proofs.Frames.{no-frame, framed}
+use Rattle.frames.proofs.Frames.{no-frame, whole-frame}
 use borrow.Author.Needs.{needs}
 use Rattle.frames.proofs.pairing_response.Statement.{statement}
 use Rattle.frames.proofs.pairing_response.Tie as tie
@@ -13,7 +13,7 @@ returns c = no-frame _ 6 _ _ refl (c .if1 .taken)
 
 returns-2 : tie.Need-returns-2
 returns-2 c =
-    framed _ 6 _ _ refl _ (c .before .before .before .before .before .before .before .before .before .before .if1 .left)
+    whole-frame _ 6 _ _ refl _ (c .before .before .before .before .before .before .before .before .before .before .if1 .left)
     (rw (← c .before .before .before .before .before .before .before .before .before .encode .ensures)
     (then-part _ _ 5 refl _ _ _ 6 _ (ap length (c .before .before .before .before .before .before .before .before .before .encode .ensures)) (c .before .before .before .before .before .before .before .before .before .before .if1 .left) (c .before .before .before .before .before .before .before .header .ensures) (c .before .before .put .ensures)))
 

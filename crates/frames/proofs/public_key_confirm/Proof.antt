@@ -1,7 +1,8 @@
 -- `frames::public_key_confirm` meets its contract. Assumes nothing.
+use mathlib.Core.List.{[], _∷_}
 use mathlib.Core.Path.{_≡_}
 use lib.ListN.{length}
-use Rattle.frames.specs.Frames.{publicKey, pairingConfirm}
+use Rattle.frames.specs.Packets.{channel, framed, publicKey, pairingConfirm}
 use Rattle.frames.proofs.Frames.{length-frame, length-value, length-key, no-frames, both-framed}
 use borrow.Author.Needs.{needs}
 use Rattle.frames.proofs.public_key_confirm.Statement.{statement}
@@ -13,7 +14,7 @@ returns c =
     let x : length (args .x) ≡ 32 = search needs in
     let y : length (args .y) ≡ 32 = search needs in
     let v : length (args .value) ≡ 16 = search needs in
-    no-frames (publicKey (args .x) (args .y)) (pairingConfirm (args .value)) _ 69 21 (length-frame _ _ 64 (length-key _ _ x y)) (length-frame _ _ 16 (length-value _ 16 v)) (c .if1 .taken)
+    no-frames (framed channel (publicKey (args .x) (args .y) ∷ [])) (framed channel (pairingConfirm (args .value) ∷ [])) _ 69 21 (length-frame _ _ 64 (length-key _ _ x y)) (length-frame _ _ 16 (length-value _ 16 v)) (c .if1 .taken)
 
 returns-2 : tie.Need-returns-2
 returns-2 c =

@@ -2,7 +2,7 @@
 use mathlib.Core.Path.{_≡_, refl}
 use lib.ListN.{length}
 use Rattle.octets.proofs.Write.{then-part}
-use Rattle.frames.proofs.Frames.{length-value, no-frame, framed}
+use Rattle.frames.proofs.Frames.{length-value, no-frame, whole-frame}
 use borrow.Author.Needs.{needs}
 use Rattle.frames.proofs.value_frame.Statement.{statement}
 use Rattle.frames.proofs.value_frame.Tie as tie
@@ -15,7 +15,7 @@ returns c =
 returns-2 : tie.Need-returns-2
 returns-2 c =
     let v : length (c .before .before .before .before .before .before .before .before .before .before .before .args .t3) ≡ 16 = search needs in
-    framed _ 16 _ _ (length-value _ 16 v) _ (c .before .before .before .before .before .before .before .before .before .if1 .left)
+    whole-frame _ 16 _ _ (length-value _ 16 v) _ (c .before .before .before .before .before .before .before .before .before .if1 .left)
     (then-part _ _ 5 refl _ _ _ 16 _ (length-value _ 16 v) (c .before .before .before .before .before .before .before .before .before .if1 .left) (c .before .before .before .before .before .before .before .header .ensures) (c .before .before .put-reversed .ensures))
 
 pub value-frame-spec : {M : Type 1} → statement M

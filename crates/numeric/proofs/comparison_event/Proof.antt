@@ -1,5 +1,5 @@
 -- `numeric::comparison_event` meets its contract. Assumes nothing.
-use Rattle.machine.proofs.Outcome.{met-failing}
+use Rattle.protocol.proofs.Follows.{failing}
 use Rattle.numeric.proofs.Other.{comparison-other}
 use borrow.Author.Needs.{needs}
 use Rattle.numeric.proofs.comparison_event.Statement.{statement}
@@ -9,10 +9,10 @@ returns : tie.Need-returns
 returns c = rw (c .before .before .before .before .enum-told .given .1) (c .before .before .confirmed .ensures)
 
 returns-2 : tie.Need-returns-2
-returns-2 c = rw (c .before .enum-told2 .given .1) (met-failing _ _ _ _ (c .failed .ensures) _)
+returns-2 c = rw (c .before .enum-told2 .given .1) (failing (c .failed .ensures))
 
 returns-3 : tie.Need-returns-3
-returns-3 c = rw (comparison-other _ _ _ _ (c .before .match .keys3)) (met-failing _ _ _ _ (c .failed2 .ensures) _)
+returns-3 c = rw (comparison-other _ _ _ (c .before .match .keys3)) (failing (c .failed2 .ensures))
 
 pub comparison-event-spec : {M : Type 1} → statement M
 comparison-event-spec =

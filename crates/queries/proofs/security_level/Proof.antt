@@ -1,6 +1,6 @@
 -- `queries::security_level` meets its contract. Assumes nothing.
 use mathlib.Core.Path.{sym, ap, _∙_}
-use Rattle.machine.specs.Step.{securityLevel}
+use Rattle.machine.specs.Level.{securityLevel}
 use borrow.Author.Needs.{needs}
 use Rattle.queries.proofs.security_level.Statement.{statement}
 use Rattle.queries.proofs.security_level.Tie as tie

@@ -1,33 +1,26 @@
 -- `questions::by_command` meets its contract. Assumes nothing.
-use Rattle.machine.specs.Questions.{nextOf}
 use Rattle.questions.proofs.Other.{command-other}
 use borrow.Author.Needs.{needs}
 use Rattle.questions.proofs.by_command.Statement.{statement}
 use Rattle.questions.proofs.by_command.Tie as tie
 
 returns : tie.Need-returns
-unfolding nextOf
 returns c = rw (c .before .enum-told .given .1) (c .key .ensures)
 
 returns-2 : tie.Need-returns-2
-unfolding nextOf
 returns-2 c = rw (c .before .enum-told2 .given .1) (c .comparison .ensures)
 
 returns-3 : tie.Need-returns-3
-unfolding nextOf
 returns-3 c = rw (c .before .before .phase .given .1) (c .confirm .ensures)
 
 returns-4 : tie.Need-returns-4
-unfolding nextOf
 returns-4 c = rw (c .before .before .phase2 .given .1) (c .random .ensures)
 
 returns-5 : tie.Need-returns-5
-unfolding nextOf
 returns-5 c = rw (c .before .enum-told3 .given .1) (c .check .ensures)
 
 returns-6 : tie.Need-returns-6
-unfolding nextOf
-returns-6 c = let a = c .before .before .before .args in rw (command-other (a .phase) (a .state) (a .code) (a .payload .now) (a .supplied) (c .before .match .keys6)) (c .none .ensures)
+returns-6 c = let a = c .before .before .before .args in command-other _ _ _ (c .none .ensures) (a .phase) (a .state) (a .code) (a .payload .now) (c .before .match .keys6)
 
 pub by-command-spec : {M : Type 1} → statement M
 by-command-spec =

@@ -1,25 +1,20 @@
 -- `questions::by_event` meets its contract. Assumes nothing.
-use Rattle.machine.specs.Questions.{nextOf}
 use Rattle.questions.proofs.Other.{event-other}
 use borrow.Author.Needs.{needs}
 use Rattle.questions.proofs.by_event.Statement.{statement}
 use Rattle.questions.proofs.by_event.Tie as tie
 
 returns : tie.Need-returns
-unfolding nextOf
 returns c = rw (c .before .before .phase .given .1) (c .compared .ensures)
 
 returns-2 : tie.Need-returns-2
-unfolding nextOf
 returns-2 c = rw (c .before .before .phase2 .given .1) (c .typed .ensures)
 
 returns-3 : tie.Need-returns-3
-unfolding nextOf
 returns-3 c = rw (c .before .enum-told .given .1) (c .received .ensures)
 
 returns-4 : tie.Need-returns-4
-unfolding nextOf
-returns-4 c = let a = c .before .before .args in rw (event-other (a .phase) (a .state) (a .came) (a .values) (a .supplied) (c .before .match .keys4)) (c .none .ensures)
+returns-4 c = let a = c .before .before .args in event-other _ _ _ (c .none .ensures) (a .phase) (a .state) (a .came) (a .values) (c .before .match .keys4)
 
 pub by-event-spec : {M : Type 1} → statement M
 by-event-spec =

@@ -1,23 +1,25 @@
 -- `questions::check` meets its contract. Assumes nothing.
-use mathlib.Core.Path.{_∙_}
-use borrow.Author.Tests.{eq-eqb, ne-eqb}
+use mathlib.Core.Path.{sym, _∙_}
+use borrow.Author.Tests.{eqb-true, eq-eqb, ne-eqb}
+use Rattle.octets.specs.Octets.{flip}
 use Rattle.octets.proofs.Octets.{turned-whole}
-use Rattle.machine.specs.Questions.{nextOf}
+use Rattle.protocol.proofs.Next.{asks-nothing, passed, stopped}
 use borrow.Author.Needs.{needs}
 use Rattle.questions.proofs.check.Statement.{statement}
 use Rattle.questions.proofs.check.Tie as tie
 
 returns : tie.Need-returns
-unfolding nextOf
-returns c = rw (ne-eqb _ _ (c .before .if1 .taken)) (c .none .ensures)
+returns c = stopped (ne-eqb _ _ (c .before .if1 .taken)) (asks-nothing (c .none .ensures))
 
 returns-2 : tie.Need-returns-2
-unfolding nextOf
-returns-2 c = rw (eq-eqb _ _ (c .before .before .if1 .left), ne-eqb _ _ (c .before .if2 .taken)) (c .check-value .ensures)
+returns-2 c =
+    let whole = sym (c .before .before .before .is-value .ensures) ∙ c .before .before .if2 .taken in
+    passed (eq-eqb _ _ (c .before .before .before .before .if1 .left)) (rw (whole, ← (c .before .reversed16 .ensures ∙ turned-whole 16 _ (eqb-true _ 16 whole))) (c .check-value .ensures))
 
 returns-3 : tie.Need-returns-3
-unfolding nextOf
-returns-3 c = rw (eq-eqb _ _ (c .before .before .before .if1 .left), eq-eqb _ _ (c .before .before .if2 .left), ← (c .before .reversed16 .ensures ∙ turned-whole 16 _ (c .before .before .if2 .left))) (c .check-value2 .ensures)
+returns-3 c =
+    let whole = sym (c .before .before .is-value .ensures) ∙ c .before .if2 .left in
+    passed (eq-eqb _ _ (c .before .before .before .if1 .left)) (rw whole (c .peer-check .ensures (flip (c .before .before .before .before .before .args .payload .now))))
 
 pub check-spec : {M : Type 1} → statement M
 check-spec =
@@ -26,7 +28,8 @@ check-spec =
     (λ c κs. search needs)
     returns
     (λ c κs. search needs)
-    returns-2
     (λ c κs. search needs)
+    (λ c κs. search needs)
+    returns-2
     (λ c κs. search needs)
     returns-3)

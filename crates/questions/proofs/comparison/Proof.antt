@@ -1,33 +1,29 @@
 -- `questions::comparison` meets its contract. Assumes nothing.
 use mathlib.Core.Path.{_∙_}
-use borrow.Author.Tests.{eq-eqb, ne-eqb}
-use Rattle.octets.proofs.Octets.{turned-whole}
-use Rattle.machine.specs.Questions.{nextOf}
+use Rattle.protocol.proofs.Follows.{read-value}
+use Rattle.protocol.proofs.Next.{wrong-asks, awaited-asks}
 use borrow.Author.Needs.{needs}
 use Rattle.questions.proofs.comparison.Statement.{statement}
 use Rattle.questions.proofs.comparison.Tie as tie
 
 returns : tie.Need-returns
-unfolding nextOf
-returns c = rw (ne-eqb _ _ (c .before .if1 .taken)) (c .none .ensures)
+returns c = wrong-asks (c .before .before .before .before .random .ensures) (c .before .before .verdict .given .1) (c .none .ensures)
 
 returns-2 : tie.Need-returns-2
-unfolding nextOf
-returns-2 c = rw (eq-eqb _ _ (c .before .before .if1 .left), ne-eqb _ _ (c .before .if2 .taken)) (c .none2 .ensures)
-
-returns-3 : tie.Need-returns-3
-unfolding nextOf
-returns-3 c =
-    rw (eq-eqb _ _ (c .before .before .before .if1 .left), eq-eqb _ _ (c .before .before .if2 .left), ← (c .before .reversed16 .ensures ∙ turned-whole 16 _ (c .before .before .if2 .left))) (c .compared-number .ensures)
+returns-2 c =
+    let verdict = c .before .before .before .before .random .ensures in
+    let told = c .before .before .enum-told .given .1 in
+    awaited-asks verdict told (rw (← (c .before .reversed16 .ensures ∙ read-value _ _ _ verdict told)) (c .number .ensures))
 
 pub comparison-spec : {M : Type 1} → statement M
 comparison-spec =
     tie.close
     (tie.spec
     (λ c κs. search needs)
+    (λ c. search needs)
+    (λ c κs. search needs)
+    (λ c. search needs)
+    (λ c κs. search needs)
+    (λ c κs. search needs)
     returns
-    (λ c κs. search needs)
-    returns-2
-    (λ c κs. search needs)
-    (λ c κs. search needs)
-    returns-3)
+    returns-2)

@@ -1,23 +1,23 @@
 -- `questions::confirm` meets its contract. Assumes nothing.
-use borrow.Author.Tests.{eq-eqb, ne-eqb}
-use Rattle.machine.specs.Questions.{nextOf}
+use Rattle.protocol.proofs.Next.{wrong-asks, awaited-asks}
 use borrow.Author.Needs.{needs}
 use Rattle.questions.proofs.confirm.Statement.{statement}
 use Rattle.questions.proofs.confirm.Tie as tie
 
 returns : tie.Need-returns
-unfolding nextOf
-returns c = rw (ne-eqb _ _ (c .before .if1 .taken)) (c .none .ensures)
+returns c = wrong-asks (c .before .before .before .before .confirm .ensures) (c .before .before .verdict .given .1) (c .none .ensures)
 
 returns-2 : tie.Need-returns-2
-unfolding nextOf
-returns-2 c = rw (eq-eqb _ _ (c .before .before .if1 .left), ne-eqb _ _ (c .before .if2 .taken)) (c .none2 .ensures)
-
-returns-3 : tie.Need-returns-3
-unfolding nextOf
-returns-3 c = rw (eq-eqb _ _ (c .before .before .before .if1 .left), eq-eqb _ _ (c .before .before .if2 .left)) (c .round-confirm .ensures)
+returns-2 c = awaited-asks (c .before .before .before .before .confirm .ensures) (c .before .before .enum-told .given .1) (c .round-confirm .ensures _)
 
 pub confirm-spec : {M : Type 1} → statement M
 confirm-spec =
     tie.close
-    (tie.spec (λ c κs. search needs) returns (λ c κs. search needs) returns-2 (λ c κs. search needs) returns-3)
+    (tie.spec
+    (λ c κs. search needs)
+    (λ c. search needs)
+    (λ c κs. search needs)
+    (λ c. search needs)
+    (λ c κs. search needs)
+    returns
+    returns-2)

@@ -1,7 +1,7 @@
 -- `request::accept` meets its contract. Assumes nothing.
-use mathlib.Core.Path.{sym, ap, _∙_}
+use mathlib.Core.Path.{sym, _∙_}
 use borrow.Author.Tests.{lt-ltb, le-ltb}
-use Rattle.machine.specs.Request.{acceptOf}
+use Rattle.protocol.specs.Parts.{acceptOf}
 use borrow.Author.Needs.{needs}
 use Rattle.request.proofs.accept.Statement.{statement}
 use Rattle.request.proofs.accept.Tie as tie

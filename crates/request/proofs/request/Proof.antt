@@ -1,16 +1,15 @@
 -- `request::request` meets its contract. Assumes nothing.
-use mathlib.Core.Path.{sym, ap, _∙_}
 use borrow.Author.Tests.{eq-eqb, ne-eqb}
-use Rattle.machine.proofs.Outcome.{passes, fails}
+use Rattle.protocol.proofs.Follows.{failing, passes, stops}
 use borrow.Author.Needs.{needs}
 use Rattle.request.proofs.request.Statement.{statement}
 use Rattle.request.proofs.request.Tie as tie
 
 returns : tie.Need-returns
-returns c = fails _ _ _ _ _ (ne-eqb _ _ (c .before .if1 .taken)) (c .failed .ensures) _
+returns c = λ a. stops (ne-eqb _ _ (c .before .if1 .taken)) (failing (c .failed .ensures))
 
 returns-2 : tie.Need-returns-2
-returns-2 c = passes _ _ _ _ _ (eq-eqb _ _ (c .before .before .before .before .before .if1 .left)) (rw (← c .before .before .before .before .accept .ensures) (c .before .before .answer .ensures))
+returns-2 c = λ a. passes (eq-eqb _ _ (c .before .before .before .before .before .if1 .left)) (rw (← c .before .before .before .before .accept .ensures) (c .before .before .answer .ensures a))
 
 pub request-spec : {M : Type 1} → statement M
 request-spec =

@@ -6,7 +6,7 @@ use Rattle.wrapper.proofs.refused.Tie as tie
 
 returns : tie.Need-returns
 unfolding startRefused
-returns c = rw (c .at .ensures, c .before .fresh .ensures)
+returns c = rw (c .joined .ensures, c .before .at .ensures, c .before .before .fresh .ensures)
 
 pub refused-spec : {M : Type 1} → statement M
-refused-spec = tie.close (tie.spec (λ c κs. search needs) (λ c κs. search needs) returns)
+refused-spec = tie.close (tie.spec (λ c κs. search needs) (λ c κs. search needs) (λ c κs. search needs) returns)

@@ -5,7 +5,7 @@ use Rattle.responder.proofs.Responder.event.Statement.{statement}
 use Rattle.responder.proofs.Responder.event.Tie as tie
 
 returns : tie.Need-returns
-returns c = handed (c .handed-back .ensures) (c .before .before .before .on-event .ensures)
+returns c = handed _ _ (c .handed-back .ensures) (c .before .before .before .on-event .ensures)
 
 pub event-spec : {M : Type 1} → statement M
 event-spec = tie.close (tie.spec (λ c κs. search needs) (λ c κs. search needs) (λ c. search needs) returns)

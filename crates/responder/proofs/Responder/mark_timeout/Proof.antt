@@ -1,6 +1,7 @@
 -- `responder::Responder::mark_timeout` meets its contract. Assumes nothing.
 use mathlib.Core.Path.{sym, ap, _∙_}
-use Rattle.machine.specs.Step.{timedOut}
+use Rattle.protocol.specs.Role.{timedOut}
+use Rattle.machine.specs.State.{joinedOf}
 use Rattle.responder.specs.Calls.{responderOf}
 use borrow.Author.Needs.{needs}
 use Rattle.responder.proofs.Responder.mark_timeout.Statement.{statement}
@@ -12,7 +13,7 @@ returns c = rw (sym (c .before .finished .ensures) ∙ c .if1 .taken)
 
 returns-2 : tie.Need-returns-2
 unfolding timedOut
-returns-2 c = rw (sym (c .before .before .finished .ensures) ∙ c .before .if1 .left) (ap responderOf (c .at .ensures))
+returns-2 c = rw (sym (c .before .before .before .before .finished .ensures) ∙ c .before .before .before .if1 .left) (ap responderOf (c .joined .ensures ∙ ap (joinedOf _) (c .before .at .ensures)))
 
 pub mark-timeout-spec : {M : Type 1} → statement M
-mark-timeout-spec = tie.close (tie.spec (λ c κs. search needs) returns (λ c κs. search needs) returns-2)
+mark-timeout-spec = tie.close (tie.spec (λ c κs. search needs) returns (λ c κs. search needs) (λ c κs. search needs) returns-2)

@@ -1,0 +1,2 @@
+-- The definitions of `asking`, file by file.
+pub mod Kinded
