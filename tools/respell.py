@@ -66,6 +66,8 @@ def main():
         print(old, "->", new)
     if dry:
         return
+    for old in ("pairingConfirm", "pairingRandom", "shownAs"):  # constructors that share a line, and an alias
+        names[old] = respelled(old)
     for old in TURNED:
         names.setdefault(old, "call_rows_lem" if old == "call-rows" else respelled(old))
     pattern = re.compile("(?<!" + PROTECT + ")(" + "|".join(sorted(map(re.escape, names), key=len, reverse=True)) + ")(?!" + PROTECT + ")")

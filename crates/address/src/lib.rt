@@ -1,22 +1,24 @@
 // Device addresses: public or random, six octets, most significant first. Here too is what makes the payload of an Identity Address
 // Information (Part H 3.6.5) acceptable.
+#![tactic(auto)]
+
 ghost use Rattle.std.specs.Prelude.{◌≡◌};
 ghost use Rattle.address.specs.Identity.{kind_number, received_of, none_of, decode_of};
 
-#[derive(Drop)]
+#[derive(Clone, Copy)]
 pub enum AddressKind {
     Public,
     Random,
 }
 
-#[derive(Drop)]
+#[derive(Clone, Copy)]
 pub struct Address {
     pub kind: AddressKind,
     pub octets: [u8; 6],
 }
 
 // A payload's address. Where it has none, `valid` is false and the address is public and all zero.
-#[derive(Drop)]
+#[derive(Clone, Copy)]
 pub struct Received {
     pub valid: bool,
     pub address: Address,

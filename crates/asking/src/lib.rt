@@ -1,4 +1,6 @@
 // The questions to the cryptography outside, one function a kind, for every role (Part H 2.2.6 to 2.2.9). What a kind doesn't take is zero.
+#![tactic(auto)]
+
 ghost use Rattle.std.specs.Prelude.{◌≡◌};
 ghost use Rattle.protocol.specs.Parts.{no_question, ask_dh, ask_f4, ask_f5, ask_f6, ask_g2};
 ghost use Rattle.asking.specs.Kinded.{kinded};

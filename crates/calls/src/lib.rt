@@ -1,5 +1,7 @@
 // Calls as bytes: the records of docs/CALLS.md, read and written. A record is a header of four bytes and a payload. Headers and answers are
 // here; setups stand in `setups`, commands and events in `inputs`, and are passed on from there. Nothing here runs the machine.
+#![tactic(auto)]
+
 ghost use Rattle.std.specs.Prelude.{◌≡◌};
 ghost use Rattle.octets.specs.Write.{Wrote};
 ghost use Rattle.calls.specs.Header.{record_number, record_of, header_octets, read_header};
@@ -11,7 +13,7 @@ pub use inputs::{
 use protocol::{Answer, Failure, Refusal};
 pub use setups::{ReadSetup, SetupCall, StartKind, put_setup, read_setup};
 
-#[derive(Drop)]
+#[derive(Clone, Copy)]
 pub enum Kind {
     Setup,
     Command,
@@ -21,14 +23,14 @@ pub enum Kind {
     Unknown,
 }
 
-#[derive(Drop)]
+#[derive(Clone, Copy)]
 pub struct Header {
     pub length: usize,
     pub kind: Kind,
 }
 
 // `Taken` is the answer of a start that began too.
-#[derive(Drop)]
+#[derive(Clone, Copy)]
 pub enum ReadAnswer {
     Fits(Answer),
     Misfit,

@@ -1,4 +1,6 @@
 // The DHKey check (Part H 2.3.5.6.5): the step of WaitingDHKeyEa, and of a check that came early.
+#![tactic(auto)]
+
 ghost use Rattle.std.specs.Prelude.{◌≡◌, true};
 ghost use Rattle.machine.specs.Dhkey.{new_bond, checking, on_check};
 ghost use Rattle.machine.specs.Responder.{Follows};

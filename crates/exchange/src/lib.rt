@@ -1,4 +1,6 @@
 // The exchange of public keys (Part H 2.3.5.6.1): the step of WaitingPublicKey, and the first move of each method.
+#![tactic(auto)]
+
 ghost use Rattle.std.specs.Prelude.{ℕ, List, [], ◌∷◌};
 ghost use Rattle.protocol.specs.Plan.{ends, goes};
 ghost use Rattle.protocol.specs.Parts.{shown};

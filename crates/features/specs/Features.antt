@@ -1,5 +1,5 @@
 -- The six octets of Pairing Request and Pairing Response (Part H 3.5.1, 3.5.2), both ways.
-use Rattle.std.specs.Prelude.{ℕ, List, [], ◌∷◌, Bool, cond, ◌&&◌, length, get_or, eqb, leb}
+use Rattle.std.specs.Prelude.{ℕ, List, [], ◌∷◌, cond, length, get_or, eqb, leb}
 use Rattle.features.specs.declared.IoCapabilities.{IoCapabilities}
 use Rattle.features.specs.declared.IoCapabilities.TheVariants.{DisplayOnly, DisplayYesNo, KeyboardOnly, NoInputNoOutput, KeyboardDisplay}
 use Rattle.features.specs.declared.UseOutOfBand.{UseOutOfBand}

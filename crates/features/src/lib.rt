@@ -1,10 +1,12 @@
 // Pairing features: what each side says of itself in a Pairing Request and a Pairing Response (Part H 3.5.1, 3.5.2), the six octets
 // that carry it, and the tests on its bits. AuthReq and the key distribution octets are kept as received, all eight bits.
+#![tactic(auto)]
+
 ghost use Rattle.std.specs.Prelude.{◌≡◌};
 ghost use Rattle.features.specs.Features.{io_number, io_of, oob_number, oob_of, encode_of, decode_of, io_cap_of};
 ghost use Rattle.features.specs.Bits.{bonding_bits, mitm_bit, secure_connections_bit, identity_bit, our_auth_req};
 
-#[derive(Drop)]
+#[derive(Clone, Copy)]
 pub enum IoCapabilities {
     DisplayOnly,
     DisplayYesNo,
@@ -13,14 +15,14 @@ pub enum IoCapabilities {
     KeyboardDisplay,
 }
 
-#[derive(Drop)]
+#[derive(Clone, Copy)]
 pub enum UseOutOfBand {
     NotPresent,
     Present,
 }
 
 // The fields in the order of the packet. `initiator` and `responder` are the two key distribution octets.
-#[derive(Drop)]
+#[derive(Clone, Copy)]
 pub struct PairingFeatures {
     pub io: IoCapabilities,
     pub oob: UseOutOfBand,
@@ -31,7 +33,7 @@ pub struct PairingFeatures {
 }
 
 // What a payload says: features, or nothing that Part H allows.
-#[derive(Drop)]
+#[derive(Clone, Copy)]
 pub enum Decoded {
     Features(PairingFeatures),
     Refused,

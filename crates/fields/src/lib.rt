@@ -1,5 +1,7 @@
 // The fields of a payload: bytes, little-endian numbers and byte strings, read and written at an offset. Where a payload ends before
 // a field does, zeros are read; where a buffer does, nothing is written.
+#![tactic(auto)]
+
 ghost use Rattle.std.specs.Prelude.{◌≡◌, ◌&&◌, ◌≤◌, get_or};
 ghost use Rattle.fields.specs.Fields.{little, number_at, filled, field, flag_number, at_most, placed, Placed};
 

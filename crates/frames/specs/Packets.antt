@@ -40,7 +40,7 @@ check_code = 0x0D
 pub data Packet : Type 0 where
   -- Part H 3.5.2, 3.5.3, 3.5.4
   pairing_response : PairingFeatures → Packet
-  pairingConfirm pairingRandom : List ℕ → Packet
+  pairing_confirm pairing_random : List ℕ → Packet
   -- Part H 3.6.4, 3.6.5, 3.6.7
   identity_information : List ℕ → Packet
   identity_address : Address → Packet
@@ -51,8 +51,8 @@ pub data Packet : Type 0 where
 
 abbrev pub code_of : Packet → ℕ
 code_of (pairing_response features) = response_code
-code_of (pairingConfirm value) = confirm_code
-code_of (pairingRandom nonce) = random_code
+code_of (pairing_confirm value) = confirm_code
+code_of (pairing_random nonce) = random_code
 code_of (identity_information irk) = identity_information_code
 code_of (identity_address address) = identity_address_code
 code_of (security_request authreq) = security_request_code
@@ -61,8 +61,8 @@ code_of (dhkey_check value) = check_code
 
 abbrev pub payload_of : Packet → List ℕ
 payload_of (pairing_response features) = encode_of features
-payload_of (pairingConfirm value) = flip value
-payload_of (pairingRandom nonce) = flip nonce
+payload_of (pairing_confirm value) = flip value
+payload_of (pairing_random nonce) = flip nonce
 payload_of (identity_information irk) = flip irk
 payload_of (identity_address address) = kind_number address.kind ∷ flip address.octets
 payload_of (security_request authreq) = authreq ∷ []

@@ -1,12 +1,14 @@
 // The frames that the box sends, one function a packet. Each writes its frame over the start of a lent outbox and answers how many
 // octets that were; where the outbox is too short nothing is written and the answer is 0. Values, key coordinates and addresses are
 // given most significant octet first and travel least significant first.
+#![tactic(auto)]
+
 ghost use Rattle.std.specs.Prelude.{◌≤◌, ◌≡◌, [], ◌∷◌, ◌++◌, length};
 ghost use Rattle.octets.specs.Write.{over, Wrote};
 ghost use Rattle.frames.specs.Packets.{
   pairing_response,
-  pairingConfirm,
-  pairingRandom,
+  pairing_confirm,
+  pairing_random,
   identity_information,
   identity_address,
   security_request,
@@ -56,14 +58,14 @@ pub fn pairing_response(out: &mut [u8], features: PairingFeatures) -> usize
 
 // Pairing Confirm.
 pub fn confirm(out: &mut [u8], value: [u8; 16]) -> usize
-    ensures { Wrote (framed channel (pairingConfirm value ∷ [])) out.old result out.new }
+    ensures { Wrote (framed channel (pairing_confirm value ∷ [])) out.old result out.new }
 {
     value_frame(out, PAIRING_CONFIRM, value)
 }
 
 // Pairing Random: a nonce.
 pub fn random(out: &mut [u8], nonce: [u8; 16]) -> usize
-    ensures { Wrote (framed channel (pairingRandom nonce ∷ [])) out.old result out.new }
+    ensures { Wrote (framed channel (pairing_random nonce ∷ [])) out.old result out.new }
 {
     value_frame(out, PAIRING_RANDOM, nonce)
 }
@@ -127,7 +129,7 @@ pub fn public_key(out: &mut [u8], x: [u8; 32], y: [u8; 32]) -> usize
 
 // Pairing Public Key and, behind it, Pairing Confirm: the rest of the outbox is lent on to the confirm writer.
 pub fn public_key_confirm(out: &mut [u8], x: [u8; 32], y: [u8; 32], value: [u8; 16]) -> usize
-    ensures { Wrote (framed channel (public_key x y ∷ pairingConfirm value ∷ [])) out.old result out.new }
+    ensures { Wrote (framed channel (public_key x y ∷ pairing_confirm value ∷ [])) out.old result out.new }
 {
     if out.len() < 90 {
         return 0;

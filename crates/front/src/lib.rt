@@ -1,4 +1,6 @@
 // The front of a call, where refusals are tested before any step, and after it the step of each phase.
+#![tactic(auto)]
+
 ghost use Rattle.std.specs.Prelude.{◌≡◌, length, ltb};
 ghost use Rattle.protocol.specs.Role.{command, event, enough, gate_of, taking, plan};
 ghost use Rattle.machine.specs.State.{finished_phase};

@@ -1,4 +1,6 @@
 // An early payload: a confirm that comes before the passkey is typed, a DHKey check before the user's answer.
+#![tactic(auto)]
+
 ghost use Rattle.protocol.specs.declared.Supplied.{Supplied};
 ghost use Rattle.machine.specs.Holding.{holds};
 ghost use Rattle.machine.specs.Passkey.{on_early_confirm};

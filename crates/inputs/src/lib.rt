@@ -1,5 +1,7 @@
 // Commands and events as bytes: the payloads of docs/CALLS.md, kinds 2 and 3, read and written. Both begin with the outbox's length and the
 // supplied values. Reading says whether a payload fits its kind; writing refuses what no payload can carry.
+#![tactic(auto)]
+
 ghost use Rattle.std.specs.Prelude.{◌≡◌, ◌∷◌, ◌++◌, ◌≤◌, length, take, drop};
 ghost use Rattle.octets.specs.Write.{Wrote};
 ghost use Rattle.fields.specs.Fields.{little, join, Placed};
@@ -27,7 +29,7 @@ ghost use Rattle.inputs.specs.Input.{
 use protocol::{Event, Given, OobData, Supplied};
 
 // What commands and events have in common: the outbox's length, which answers are given, and the supplied values.
-#[derive(Drop)]
+#[derive(Clone, Copy)]
 pub struct Call {
     pub outbox: usize,
     pub given: Given,
@@ -35,14 +37,14 @@ pub struct Call {
 }
 
 // A payload that doesn't fit gives the call of an empty one: zeros.
-#[derive(Drop)]
+#[derive(Clone, Copy)]
 pub struct ReadCommand {
     pub fits: bool,
     pub call: Call,
 }
 
 // An event, and the out-of-band values that OobDataReceived reads.
-#[derive(Drop)]
+#[derive(Clone, Copy)]
 pub struct EventCall {
     pub call: Call,
     pub came: Event,
@@ -50,7 +52,7 @@ pub struct EventCall {
 }
 
 // A payload that doesn't fit gives the call of an empty one: zeros, and OobDataReceived.
-#[derive(Drop)]
+#[derive(Clone, Copy)]
 pub struct ReadEvent {
     pub fits: bool,
     pub call: EventCall,

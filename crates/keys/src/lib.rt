@@ -1,5 +1,7 @@
 // The encrypted link and the identity keys that go over it (Part H 2.4.3.1, 3.6.1, 3.6.4, 3.6.5): the steps of WaitingLinkEncrypted,
 // WaitingIdentitityInformation and WaitingIdentitityAddressInformation, and of a bonded link that is encrypted before any request.
+#![tactic(auto)]
+
 ghost use Rattle.std.specs.Prelude.{◌≡◌};
 ghost use Rattle.octets.specs.Write.{Wrote};
 ghost use Rattle.frames.specs.Packets.{channel, framed};

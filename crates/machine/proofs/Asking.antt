@@ -20,7 +20,7 @@ use Rattle.protocol.specs.declared.Question.{Question}
 use Rattle.protocol.specs.declared.QuestionKind.{QuestionKind}
 use Rattle.protocol.specs.declared.QuestionKind.TheVariants as Q
 use Rattle.protocol.specs.declared.Supplied.{Supplied}
-use Rattle.protocol.specs.Plan.{reply, runs, asked}
+use Rattle.protocol.specs.Plan.{runs, asked}
 use Rattle.protocol.specs.Draws.{Draw, drawn}
 use Rattle.protocol.specs.Parts.{accept_of, is_key, is_value, key_x, key_y, ask_dh}
 use Rattle.protocol.specs.Next.{next_of}

@@ -1,4 +1,5 @@
 -- What each phase waits for: a call that brings it goes on by what is left of its plan, and any other is refused or fails. Assumes nothing.
+use Rattle.std.proofs.lemmas.Bool.{cond-true}
 use Prim.Native.Nat.{ℕ, ◌+◌, ◌≤◌, ◌<◌}
 use mathlib.Core.Path.{◌≡◌, refl, ap, ◌∙◌}
 use mathlib.Core.List.{List, [], ◌∷◌}
@@ -18,7 +19,7 @@ use Rattle.method.specs.declared.PassKeyEntryAction.TheVariants as W
 use Rattle.method.specs.Method.{method_of}
 use Rattle.rounds.specs.declared.Following.TheVariants.{Round, DHKeyCheck}
 use Rattle.rounds.specs.Rounds.{after_of}
-use Rattle.frames.specs.Packets.{request_code, confirm_code, random_code, check_code, identity_information_code, pairingRandom}
+use Rattle.frames.specs.Packets.{request_code, confirm_code, random_code, check_code, identity_information_code, pairing_random}
 use Rattle.protocol.specs.declared.Acceptance.{Acceptance}
 use Rattle.protocol.specs.declared.Acceptance.TheVariants.{Accepted, Rejected}
 use Rattle.protocol.specs.declared.Configured.{Configured}
@@ -36,7 +37,7 @@ use Rattle.protocol.specs.declared.Supplied.{Supplied}
 use Rattle.protocol.specs.Plan.{Plan, Ending, ends, goes, refuses, fails, runs, Along}
 use Rattle.protocol.specs.Parts.{key_x, is_value, accept_of, accepting, shown}
 use Rattle.protocol.specs.Exchanged.{fresh, set_nonces, set_held}
-use Rattle.protocol.specs.Role.{Call, Input, command, event, ranged, enough, said, plan, run}
+use Rattle.protocol.specs.Role.{Call, command, event, ranged, enough, said, plan, run}
 use Rattle.protocol.proofs.Runs as Runs
 use Rattle.protocol.proofs.Walk.{walk}
 use Rattle.machine.specs.declared.Phase.{Phase}
@@ -82,7 +83,7 @@ pub data Awaited (m : State) (c : Call) : Phase → Plan State → Type 0 where
   oob_data : (o : OobData) → c.input ≡ event I.OobDataReceived o → (absent o || same o.peerconfirm c.supplied.peerconfirm) ≡ true
       → Awaited m c P.WaitingOobData (ends (received m o))
   oob_random : {w : List ℕ} → Value random_code w c → Awaited m c P.WaitingOobRandom
-      (ends (goes (to m P.WaitingDHKeyEa (set_nonces m.secrets (flip w) c.supplied.nonce)) (pairingRandom c.supplied.nonce ∷ []) E.Nothing))
+      (ends (goes (to m P.WaitingDHKeyEa (set_nonces m.secrets (flip w) c.supplied.nonce)) (pairing_random c.supplied.nonce ∷ []) E.Nothing))
   check : {w : List ℕ} → Value check_code w c → flip w ≡ c.supplied.peercheck
       → Awaited m c P.WaitingDHKeyEa (ends (checked m c.supplied.ltk c.supplied.owncheck))
   link : Encrypts c → Awaited m c P.WaitingLinkEncrypted (encrypting m)
@@ -97,7 +98,7 @@ took : {m : State} {c : Call} {p : Phase} {q : Plan State} → Awaited m c p q �
 unfolding runs
 took (request a) e n = rw (a.brings, e, n, a.says)
 took (bonded_link i) e n = rw (i.1, e, n)
-took (key k) e n = rw (k.brings, e, n, k.whole, k.valid)
+took (key k) e n = rw (k.brings, e, n, k.whole) (cond-true _ _ _ k.valid)
 took (compared k) e n = rw (k.brings, e, n, k.whole)
 took (early_check k) e n = rw (k.brings, e, n, k.whole)
 took (yes i) e n = rw (i.1, e, n)

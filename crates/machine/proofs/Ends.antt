@@ -17,7 +17,7 @@ use Rattle.method.specs.declared.PairingMethod.TheVariants.{JustWorks, NumericCo
 use Rattle.method.specs.declared.PassKeyEntryAction.TheVariants as W
 use Rattle.rounds.specs.declared.Following.TheVariants.{Round, DHKeyCheck}
 use Rattle.rounds.specs.Rounds.{after_of, in_range}
-use Rattle.frames.specs.Packets.{Packet, request_code, public_key_code, confirm_code, random_code, check_code, pairing_response, pairingConfirm, pairingRandom, dhkey_check}
+use Rattle.frames.specs.Packets.{Packet, request_code, public_key_code, confirm_code, random_code, check_code, pairing_response, pairing_confirm, pairing_random, dhkey_check}
 use Rattle.protocol.specs.declared.Acceptance.{Acceptance}
 use Rattle.protocol.specs.declared.Action.{Action}
 use Rattle.protocol.specs.declared.Answer.{Answer}
@@ -67,10 +67,10 @@ pub data Sends (m : State) (a : Supplied) : List Packet → Type 0 where
   nothing : Sends m a []
   response : {f : PairingFeatures} → Sends m a (pairing_response f ∷ [])
   key : Sends m a (own_key m ∷ [])
-  key_confirm : Sends m a (own_key m ∷ pairingConfirm a.ownconfirm ∷ [])
-  confirm : Sends m a (pairingConfirm a.ownconfirm ∷ [])
-  kept_nonce : Sends m a (pairingRandom m.secrets.ownnonce ∷ [])
-  drawn_nonce : Sends m a (pairingRandom a.nonce ∷ [])
+  key_confirm : Sends m a (own_key m ∷ pairing_confirm a.ownconfirm ∷ [])
+  confirm : Sends m a (pairing_confirm a.ownconfirm ∷ [])
+  kept_nonce : Sends m a (pairing_random m.secrets.ownnonce ∷ [])
+  drawn_nonce : Sends m a (pairing_random a.nonce ∷ [])
   check : Sends m a (dhkey_check a.owncheck ∷ [])
   identity : Sends m a (own_identity m)
 

@@ -1,4 +1,5 @@
 -- Passkey entry is exactly twenty rounds: the machine stands before the DHKey check just where its taken history is `Passed`. Assumes nothing.
+use Rattle.std.proofs.lemmas.Bool.{cond-true}
 use Prim.Native.Nat.{ℕ, suc, ◌+◌, ◌-◌, ◌≤◌, ◌<◌}
 use mathlib.Core.Path.{◌≡◌, refl, sym, ap, subst, ◌∙◌}
 use mathlib.Core.List.{List, [], ◌∷◌, ◌++◌, map}
@@ -12,14 +13,14 @@ use Rattle.method.specs.declared.PairingMethod.{PairingMethod}
 use Rattle.method.specs.declared.PairingMethod.TheVariants.{JustWorks, NumericComparison, PassKeyEntry, OutOfBand}
 use Rattle.method.specs.declared.PassKeyEntryAction.{PassKeyEntryAction}
 use Rattle.method.specs.declared.PassKeyEntryAction.TheVariants as W
-use Rattle.rounds.specs.Rounds.{z_of}
+use Rattle.rounds.specs.Rounds.{in_range, z_of}
 use Rattle.frames.specs.Packets.{confirm_code}
 use Rattle.protocol.specs.declared.Configured.{Configured}
 use Rattle.protocol.specs.declared.ConnectionEvent.TheVariants as E
 use Rattle.protocol.specs.declared.Setup.{Setup}
 use Rattle.protocol.specs.declared.Supplied.{Supplied}
 use Rattle.protocol.specs.Plan.{Plan, Ending, refuses, fails, moves, runs, asked, Along}
-use Rattle.protocol.specs.Parts.{shown as shownAs}
+use Rattle.protocol.specs.Parts.{shown as shown_as}
 use Rattle.protocol.specs.Exchanged.{set_peer_nonce, peer_confirm}
 use Rattle.protocol.specs.Role.{Call, enough, said, plan, step, questions, after, run, is_taken, keep, history}
 use Rattle.protocol.proofs.Runs.{run_append, replay, Roomy, roomy}
@@ -164,10 +165,10 @@ back_rounds none r m p e i o = absurd (omega arith)
 back_rounds (round {d} {h} k g ρ) r m p e i o =
     on p (confirm k) o.0 (Ended _) _ (back_random ρ r _ refl (omega arith) i g o.1.0 (λ l. back_rounds ρ (r + 1) _ refl l i o.1.1))
 
-shown_took : {k : Configured} {d p : ℕ} → Shows k d p → (a : Supplied) → a.passkey ≡ d → (f : ℕ → Plan State) → runs a (shownAs k f) ≡ runs a (f p)
+shown_took : {k : Configured} {d p : ℕ} → Shows k d p → (a : Supplied) → a.passkey ≡ d → (f : ℕ → Plan State) → runs a (shown_as k f) ≡ runs a (f p)
 unfolding runs
 shown_took (configured p d) a e f = refl
-shown_took (drawn p r) a e f = rw (e, r)
+shown_took (drawn p r) a e f = cond-true _ _ _ (ap in_range e ∙ r) ∙ ap (λ (d : ℕ). runs a (f d)) e
 
 -- the passkey, typed before round 0's confirm or after it
 back_typed : {p : ℕ} {t : Call} {h : List Call} (m : State) → m.phase ≡ P.WaitingPassKeyInput false → is_passkey m.method ≡ true → Typed p t → Rounds 20 h → Roomy (t ∷ h)

@@ -9,7 +9,7 @@ use lib.ListN.{length, drop}
 use Rattle.octets.specs.Write.{over}
 use Rattle.octets.proofs.Write.{laid_room, wrote_room}
 use Rattle.features.specs.Bits.{identity_bit}
-use Rattle.frames.specs.Packets.{Packet, pairing_response, pairingConfirm, pairingRandom, identity_information, identity_address, dhkey_check, framed, channel}
+use Rattle.frames.specs.Packets.{Packet, pairing_response, pairing_confirm, pairing_random, identity_information, identity_address, dhkey_check, framed, channel}
 use Rattle.frames.proofs.Frames.{length_value, length_key}
 use Rattle.protocol.specs.declared.Supplied.{Supplied}
 use Rattle.protocol.specs.Met.{Met}
@@ -34,9 +34,9 @@ module _ {m : State} {a : Supplied} (z : Sized m a) where
   fits_by (Sends.response {f}) = omega (arith, one_packet (pairing_response f) 6 refl)
   fits_by Sends.key = omega (arith, one_packet (own_key m) 64 (length_key _ _ z.keyx z.keyy))
   fits_by Sends.key_confirm = omega (arith, longest m.setup.keyx m.setup.keyy a.ownconfirm z.keyx z.keyy z.ownconfirm)
-  fits_by Sends.confirm = omega (arith, one_packet (pairingConfirm a.ownconfirm) 16 (length_value _ 16 z.ownconfirm))
-  fits_by Sends.kept_nonce = omega (arith, one_packet (pairingRandom m.secrets.ownnonce) 16 (length_value _ 16 z.ownnonce))
-  fits_by Sends.drawn_nonce = omega (arith, one_packet (pairingRandom a.nonce) 16 (length_value _ 16 z.nonce))
+  fits_by Sends.confirm = omega (arith, one_packet (pairing_confirm a.ownconfirm) 16 (length_value _ 16 z.ownconfirm))
+  fits_by Sends.kept_nonce = omega (arith, one_packet (pairing_random m.secrets.ownnonce) 16 (length_value _ 16 z.ownnonce))
+  fits_by Sends.drawn_nonce = omega (arith, one_packet (pairing_random a.nonce) 16 (length_value _ 16 z.nonce))
   fits_by Sends.check = omega (arith, one_packet (dhkey_check a.owncheck) 16 (length_value _ 16 z.owncheck))
   fits_by Sends.identity = identity (identity_bit (own_features m.setup m.features).responder)
 

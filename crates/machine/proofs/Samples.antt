@@ -1,6 +1,6 @@
 -- P1 to P10 hold, by one computed test over the table. Assumes nothing.
 use mathlib.Core.Path.{◌≡◌, refl}
-use mathlib.Core.List.{List, ◌∷◌, map, Memᴰ}
+use mathlib.Core.List.{List, [], ◌∷◌, map, Memᴰ}
 use Rattle.octets.specs.Octets.{flip, zeros, all_zero}
 use Rattle.features.specs.Features.{decode_of}
 use Rattle.method.specs.Method.{method_of}
@@ -17,6 +17,7 @@ rows_hold = refl
 
 -- so each of them does
 each : {A B : Type 0} (f g : A → B) (l : List A) → map f l ≡ map g l → (x : A) → Memᴰ x l → f x ≡ g x
+each {A = A} {B = B} f g [] e x m = elim m [ ]
 each f g (y ∷ l) e x (Memᴰ.head p) = cc
 each f g (y ∷ l) e x (Memᴰ.tail i) = each f g l (cc) x i
 

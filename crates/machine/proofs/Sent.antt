@@ -10,7 +10,7 @@ use lib.Dec.{eqb}
 use borrow.Author.Tests.{eqb-true, le-ltb}
 use Rattle.octets.proofs.Octets.{ne_same}
 use Rattle.features.specs.Bits.{identity_bit}
-use Rattle.frames.specs.Packets.{Packet, pairingRandom, identity_information, identity_address}
+use Rattle.frames.specs.Packets.{Packet, pairing_random, identity_information, identity_address}
 use Rattle.protocol.specs.Plan.{Plan, Ending, runs, Along}
 use Rattle.protocol.specs.Role.{Call, said, step, after, run, enough}
 use Rattle.machine.specs.declared.Phase.{Phase}
@@ -130,4 +130,4 @@ one_nonce r (c ∷ cs) m =
     One n e = AtMostOne ((said responder (at n (P.WaitingPassKeyEntryRandom r)) e).packets ++ sent_in r (said responder (at n (P.WaitingPassKeyEntryRandom r)) e).next cs)
 
     nonce : (n : State) (q : Plan State) → Awaited (at n (P.WaitingPassKeyEntryRandom r)) c (P.WaitingPassKeyEntryRandom r) q → Along c.supplied (One n) q
-    nonce n q (random k) = inr (n.secrets.ownnonce, ap (λ ps. pairingRandom n.secrets.ownnonce ∷ ps) (silent r cs _ (after_round n.method r)))
+    nonce n q (random k) = inr (n.secrets.ownnonce, ap (λ ps. pairing_random n.secrets.ownnonce ∷ ps) (silent r cs _ (after_round n.method r)))

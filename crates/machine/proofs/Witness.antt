@@ -9,7 +9,7 @@ use Rattle.features.specs.declared.IoCapabilities.TheVariants.{DisplayOnly, Disp
 use Rattle.features.specs.declared.UseOutOfBand.TheVariants.{NotPresent}
 use Rattle.features.specs.Features.{decode_of}
 use Rattle.method.specs.Method.{method_of}
-use Rattle.frames.specs.Packets.{pairingRandom}
+use Rattle.frames.specs.Packets.{pairing_random}
 use Rattle.protocol.specs.declared.Failure.TheVariants as F
 use Rattle.protocol.specs.declared.Setup.{Setup}
 use Rattle.protocol.specs.Plan.{runs, asked}
@@ -46,7 +46,7 @@ pub record Premises : Type 0 where
       ≡ 0x81 ∷ 0x81 ∷ 0x81 ∷ 0x81 ∷ 0x81 ∷ 0x81 ∷ 0x80 ∷ 0x80 ∷ 0x80 ∷ 0x81 ∷ 0x80 ∷ 0x80 ∷ 0x80 ∷ 0x80 ∷ 0x81 ∷ 0x80 ∷ 0x81 ∷ 0x81 ∷ 0x81 ∷ 0x81 ∷ []
   -- each round sends its nonce, and there is no round 20
   pub nonces : map (λ r. sent_in r (fresh_state shows) shown_run) (0 ∷ 1 ∷ 7 ∷ 18 ∷ 19 ∷ 20 ∷ [])
-      ≡ (pairingRandom turned ∷ []) ∷ (pairingRandom turned ∷ []) ∷ (pairingRandom turned ∷ []) ∷ (pairingRandom turned ∷ []) ∷ (pairingRandom turned ∷ []) ∷ [] ∷ []
+      ≡ (pairing_random turned ∷ []) ∷ (pairing_random turned ∷ []) ∷ (pairing_random turned ∷ []) ∷ (pairing_random turned ∷ []) ∷ (pairing_random turned ∷ []) ∷ [] ∷ []
   -- a mismatch fails, and sends no nonce
   pub fails : (begun shows wrong_run).phase ≡ P.Error F.ConfirmValueFailed
   pub hides : sent_in 0 (fresh_state shows) wrong_run ≡ []

@@ -4,7 +4,7 @@
 use Rattle.std.specs.Prelude.{ℕ, ◌≤◌, ◌≡◌, List, [], ◌∷◌, ◌++◌, map, true, ◌↔◌, ◌⊎◌, length}
 use Rattle.octets.specs.Octets.{flip}
 use Rattle.rounds.specs.Rounds.{after_of, z_of}
-use Rattle.frames.specs.Packets.{Packet, random_code, pairingRandom}
+use Rattle.frames.specs.Packets.{Packet, random_code, pairing_random}
 use Rattle.protocol.specs.declared.ConnectionEvent.TheVariants as E
 use Rattle.protocol.specs.declared.Failure.TheVariants as F
 use Rattle.protocol.specs.declared.Setup.{Setup}
@@ -47,7 +47,7 @@ abbrev pub Match : Type 0
 Match =
     (m : State) (r : ℕ) (c : Call) (w : List ℕ) → m.phase ≡ P.WaitingPassKeyEntryRandom r → Value random_code w c → enough ≤ c.room
     → m.secrets.confirm ≡ c.supplied.peerconfirm
-    → step responder m c ≡ said responder m (goes (to m (waits (after_of r)) (set_peer_nonce m.secrets (flip w))) (pairingRandom m.secrets.ownnonce ∷ []) E.Nothing)
+    → step responder m c ≡ said responder m (goes (to m (waits (after_of r)) (set_peer_nonce m.secrets (flip w))) (pairing_random m.secrets.ownnonce ∷ []) E.Nothing)
 
 -- and one whose stored confirm does not: ConfirmValueFailed, which sends nothing
 abbrev pub Mismatch : Type 0
@@ -57,7 +57,7 @@ Mismatch =
 
 -- nothing, or one Pairing Random
 abbrev pub AtMostOne : List Packet → Type 0
-AtMostOne ps = (ps ≡ []) ⊎ ((nonce : List ℕ) × (ps ≡ pairingRandom nonce ∷ []))
+AtMostOne ps = (ps ≡ []) ⊎ ((nonce : List ℕ) × (ps ≡ pairing_random nonce ∷ []))
 
 -- along a run, what comes in round r's WaitingPassKeyEntryRandom is answered by at most one
 abbrev pub OneNonce : Type 0

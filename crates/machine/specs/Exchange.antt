@@ -3,7 +3,7 @@ use Rattle.std.specs.Prelude.{ℕ, List, [], ◌∷◌, false}
 use Rattle.method.specs.declared.PairingMethod.{PairingMethod}
 use Rattle.method.specs.declared.PairingMethod.TheVariants.{JustWorks, NumericComparison, PassKeyEntry, OutOfBand}
 use Rattle.method.specs.declared.PassKeyEntryAction.TheVariants as W
-use Rattle.frames.specs.Packets.{Packet, public_key, pairingConfirm}
+use Rattle.frames.specs.Packets.{Packet, public_key, pairing_confirm}
 use Rattle.protocol.specs.declared.ConnectionEvent.TheVariants as E
 use Rattle.protocol.specs.declared.Failure.TheVariants as F
 use Rattle.protocol.specs.declared.Secrets.{Secrets}
@@ -21,7 +21,7 @@ own_key m = public_key m.setup.keyx m.setup.keyy
 abbrev pub comparing : State → Secrets → Plan State
 comparing m s =
     draws_nonce λ n. asks (own_confirm m.setup s n 0) λ confirm.
-    ends (goes (to m P.WaitingNumericComparisonRandom (set_own_nonce s n)) (own_key m ∷ pairingConfirm confirm ∷ []) E.Nothing)
+    ends (goes (to m P.WaitingNumericComparisonRandom (set_own_nonce s n)) (own_key m ∷ pairing_confirm confirm ∷ []) E.Nothing)
 
 -- the passkey is shown here: it becomes both secrets
 abbrev pub showing : State → Secrets → ℕ → Ending State

@@ -2,7 +2,7 @@
 use Rattle.std.specs.Prelude.{ℕ, ◌%◌, List, [], ◌∷◌, Bool, true, false}
 use Rattle.method.specs.declared.PairingMethod.{PairingMethod}
 use Rattle.method.specs.declared.PairingMethod.TheVariants.{JustWorks, NumericComparison, PassKeyEntry, OutOfBand}
-use Rattle.frames.specs.Packets.{random_code, check_code, pairingRandom}
+use Rattle.frames.specs.Packets.{random_code, check_code, pairing_random}
 use Rattle.protocol.specs.declared.ConnectionEvent.{ConnectionEvent}
 use Rattle.protocol.specs.declared.ConnectionEvent.TheVariants as E
 use Rattle.protocol.specs.declared.Event.{Event}
@@ -20,7 +20,7 @@ use Rattle.machine.specs.Dhkey.{checking}
 
 -- the peer's nonce is kept, and ours answers it
 abbrev pub disclosing : State → List ℕ → Phase → ConnectionEvent → Ending State
-disclosing m n p e = goes (to m p (set_peer_nonce m.secrets n)) (pairingRandom m.secrets.ownnonce ∷ []) e
+disclosing m n p e = goes (to m p (set_peer_nonce m.secrets n)) (pairing_random m.secrets.ownnonce ∷ []) e
 
 -- the user compares g2(peer x, our x, peer nonce, our nonce), six decimal digits
 abbrev pub numbering : State → List ℕ → Plan State

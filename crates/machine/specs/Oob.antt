@@ -2,7 +2,7 @@
 use Rattle.std.specs.Prelude.{ℕ, List, [], ◌∷◌, Bool, cond, ◌&&◌}
 use Rattle.octets.specs.Octets.{zeros, same, all_zero}
 use Rattle.method.specs.Method.{set}
-use Rattle.frames.specs.Packets.{random_code, pairingRandom}
+use Rattle.frames.specs.Packets.{random_code, pairing_random}
 use Rattle.protocol.specs.declared.ConnectionEvent.TheVariants as E
 use Rattle.protocol.specs.declared.Event.{Event}
 use Rattle.protocol.specs.declared.Event.TheVariants as I
@@ -42,7 +42,7 @@ on_oob_data m I.OobDataReceived o = receiving m o
 
 -- a fresh nonce answers the peer's
 abbrev pub answering : State → List ℕ → Plan State
-answering m peer = draws_nonce λ own. ends (goes (to m P.WaitingDHKeyEa (set_nonces m.secrets peer own)) (pairingRandom own ∷ []) E.Nothing)
+answering m peer = draws_nonce λ own. ends (goes (to m P.WaitingDHKeyEa (set_nonces m.secrets peer own)) (pairing_random own ∷ []) E.Nothing)
 
 -- a command in WaitingOobRandom
 abbrev pub on_oob_random : State → ℕ → List ℕ → Plan State

@@ -4,7 +4,7 @@ use Rattle.octets.specs.Octets.{same}
 use Rattle.rounds.specs.declared.Following.{Following}
 use Rattle.rounds.specs.declared.Following.TheVariants.{Round, DHKeyCheck}
 use Rattle.rounds.specs.Rounds.{after_of, z_of}
-use Rattle.frames.specs.Packets.{confirm_code, random_code, pairingConfirm, pairingRandom}
+use Rattle.frames.specs.Packets.{confirm_code, random_code, pairing_confirm, pairing_random}
 use Rattle.protocol.specs.declared.ConnectionEvent.TheVariants as E
 use Rattle.protocol.specs.declared.Event.{Event}
 use Rattle.protocol.specs.declared.Event.TheVariants as I
@@ -23,7 +23,7 @@ use Rattle.machine.specs.State.{to}
 abbrev pub confirming : State → Secrets → ℕ → List ℕ → Plan State
 confirming m s r v =
     draws_nonce λ n. asks (own_confirm m.setup s n (z_of s.passkey r)) λ confirm.
-    ends (goes (to m (P.WaitingPassKeyEntryRandom r) (set_confirm s v n)) (pairingConfirm confirm ∷ []) E.Nothing)
+    ends (goes (to m (P.WaitingPassKeyEntryRandom r) (set_confirm s v n)) (pairing_confirm confirm ∷ []) E.Nothing)
 
 -- a command in WaitingPassKeyInput: an early confirm is held
 abbrev pub on_early_confirm : State → Bool → ℕ → List ℕ → Plan State
@@ -53,7 +53,7 @@ waits DHKeyCheck = P.WaitingDHKeyEa
 
 -- round r's random that was compared: our nonce answers it
 abbrev pub matched : State → ℕ → List ℕ → Ending State
-matched m r n = goes (to m (waits (after_of r)) (set_peer_nonce m.secrets n)) (pairingRandom m.secrets.ownnonce ∷ []) E.Nothing
+matched m r n = goes (to m (waits (after_of r)) (set_peer_nonce m.secrets n)) (pairing_random m.secrets.ownnonce ∷ []) E.Nothing
 
 -- the kept confirm against f4(peer x, our x, peer nonce, z)
 abbrev pub testing : State → ℕ → List ℕ → Plan State

@@ -1,12 +1,14 @@
 // The responder's state, and what a step of it gives back. The machine itself stands in specs/, as plans that read like the scope's list of
 // steps, with the theorems about it in proofs/; the crates above hold the code that follows the plans. Names of phases are those of the crate.
+#![tactic(auto)]
+
 use address::Address;
 use features::PairingFeatures;
 use method::PairingMethod;
 use protocol::{Action, Answer, ConnectionEvent, Failure, MaybeBond, Secrets, Setup};
 
 // What the machine waits for. The flag of a phase that can hold an early payload says whether it does; the number is the round.
-#[derive(Drop)]
+#[derive(Clone, Copy)]
 pub enum Phase {
     WaitingPairingRequest,
     WaitingPublicKey,
@@ -26,7 +28,7 @@ pub enum Phase {
 }
 
 // The machine. `features` are the peer's, `peer` its address as now known.
-#[derive(Drop)]
+#[derive(Clone, Copy)]
 pub struct State {
     pub phase: Phase,
     pub setup: Setup,
@@ -38,7 +40,7 @@ pub struct State {
 }
 
 // The machine but for its setup, which no step changes.
-#[derive(Drop)]
+#[derive(Clone, Copy)]
 pub struct Progress {
     pub phase: Phase,
     pub features: PairingFeatures,
@@ -50,7 +52,7 @@ pub struct Progress {
 
 // What a step gives back: the state after it but for its setup, how many octets stand in the outbox, the user's events in order, the action
 // and the answer. `first` is BondLost or nothing.
-#[derive(Drop)]
+#[derive(Clone, Copy)]
 pub struct Step {
     pub progress: Progress,
     pub sent: usize,

@@ -1,5 +1,5 @@
 -- Selecting the key generation method: Part H 2.3.5.1, Tables 2.6 to 2.8, written as the tables are.
-use Rattle.std.specs.Prelude.{ℕ, Bool, true, false, cond, ◌&&◌, ◌||◌}
+use Rattle.std.specs.Prelude.{Bool, true, false, cond, ◌&&◌, ◌||◌}
 use Rattle.features.specs.declared.IoCapabilities.{IoCapabilities}
 use Rattle.features.specs.declared.IoCapabilities.TheVariants.{DisplayOnly, DisplayYesNo, KeyboardOnly, NoInputNoOutput, KeyboardDisplay}
 use Rattle.features.specs.declared.UseOutOfBand.{UseOutOfBand}

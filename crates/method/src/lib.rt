@@ -1,17 +1,19 @@
 // How two sides pair: the four methods, the security level that each gives, and the choice from what both sides said of themselves
 // (Part H 2.3.5.1), for Secure Connections and for legacy pairing.
+#![tactic(auto)]
+
 ghost use Rattle.std.specs.Prelude.{◌≡◌};
 ghost use Rattle.method.specs.Method.{always, numeric_or, table, set, uses_oob, method_of, level_of};
 
 use features::{IoCapabilities, PairingFeatures, UseOutOfBand};
 
-#[derive(Drop)]
+#[derive(Clone, Copy)]
 pub enum PassKeyEntryAction {
     Display,
     Input,
 }
 
-#[derive(Drop)]
+#[derive(Clone, Copy)]
 pub enum PairingMethod {
     JustWorks,
     NumericComparison,
@@ -23,13 +25,13 @@ pub enum PairingMethod {
 }
 
 // The two kinds of pairing that the tables tell apart.
-#[derive(Drop)]
+#[derive(Clone, Copy)]
 pub enum Kind {
     Legacy,
     SecureConnections,
 }
 
-#[derive(Drop)]
+#[derive(Clone, Copy)]
 pub enum SecurityLevel {
     NoEncryption,
     Encrypted,

@@ -1,5 +1,7 @@
 // The words of docs/CALLS.md for the enums of a line, each in 36 octets with spaces behind it. The words stand in words.rt: a choice among
 // constants is proved in a third of the time of one among words in the code.
+#![tactic(auto)]
+
 mod words;
 
 ghost use Rattle.std.specs.Prelude.{◌≡◌};

@@ -1,4 +1,6 @@
 // The scope's numbers: what is given back where a pairing fails or a call is refused.
+#![tactic(auto)]
+
 ghost use Rattle.std.specs.Prelude.{◌≡◌};
 ghost use Rattle.protocol.specs.Numbers.{failure_number, refusal_number};
 

@@ -1,4 +1,6 @@
 // Numeric comparison and Just Works (Part H 2.3.5.6.2): the steps of WaitingNumericComparisonRandom and WaitingNumericComparisonResult.
+#![tactic(auto)]
+
 ghost use Rattle.machine.specs.Numeric.{compares, on_comparison_random, confirmed, on_comparison};
 ghost use Rattle.machine.specs.Responder.{Follows};
 

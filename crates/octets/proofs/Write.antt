@@ -5,7 +5,7 @@ use Prim.Native.Nat.{ℕ, suc, ◌+◌, ◌-◌, ◌≤◌, ◌<◌}
 use native.Mathlib.Omega.{arith}
 use native.Mathlib.Numerals.{add-one}
 use lib.ListN.{length, take, drop, get_or, set, length-drop, length-append, drop_of_length-le}
-use lib.Seq.{drop-cons, set_at, append_snoc, drop-length, drop-drop, take_all, take_at, take-length, drop_at, sets, sets-eq, length-take-le}
+use lib.Seq.{drop-cons, set_at, append_snoc, drop-length, drop-drop, take_all, take_at, take-length, drop_at, sets, sets-eq}
 use borrow.Author.Tests.{le-leb, lt-leb}
 use Rattle.octets.specs.Write.{over, laid, wrote, Wrote}
 

@@ -1,5 +1,7 @@
 // Octet strings: turned round between the order on the air and ours, written into lent slices, and compared. Nothing here knows of
 // Bluetooth. Where a slice is too short or a value has another length, the answer says so and nothing is written.
+#![tactic(auto)]
+
 ghost use Rattle.std.specs.Prelude.{◌≡◌, length};
 ghost use Rattle.octets.specs.Octets.{flip, turned, same, all_zero};
 ghost use Rattle.octets.specs.Write.{Wrote};
@@ -11,7 +13,8 @@ pub fn put(dst: &mut [u8], src: &[u8]) -> usize
     if dst.len() < src.len() {
         return 0;
     }
-    bytes::copy(src, dst)
+    dst[..src.len()].copy_from_slice(src);
+    src.len()
 }
 
 // Writes src, last octet first, over the start of dst and answers how many octets that were. Where dst is too short: nothing, and 0.

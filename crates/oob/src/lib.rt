@@ -1,4 +1,6 @@
 // Out-of-band pairing (Part H 2.3.5.6.4): the steps of WaitingOobData and WaitingOobRandom.
+#![tactic(auto)]
+
 ghost use Rattle.std.specs.Prelude.{◌≡◌, cond};
 ghost use Rattle.octets.specs.Octets.{zeros};
 ghost use Rattle.method.specs.Method.{set};

@@ -1,4 +1,6 @@
 // Passkey entry (Part H 2.3.5.6.3): the steps of WaitingPassKeyInput, WaitingPassKeyEntryConfirm and WaitingPassKeyEntryRandom.
+#![tactic(auto)]
+
 ghost use Rattle.std.specs.Prelude.{◌≡◌};
 ghost use Rattle.rounds.specs.Rounds.{after_of};
 ghost use Rattle.octets.specs.Octets.{same};

@@ -1,5 +1,7 @@
 // A command's payload as it arrives: whether it is the one that a step awaits, by its code and its length, and what it holds. A step and the
 // query of its questions go by the same functions.
+#![tactic(auto)]
+
 ghost use Rattle.std.specs.Prelude.{◌≡◌, eqb, take, drop};
 ghost use Rattle.octets.specs.Octets.{turned};
 ghost use Rattle.frames.specs.Packets.{confirm_code, random_code, public_key_code};

@@ -4,7 +4,7 @@ use mathlib.Core.Path.{◌≡◌}
 use mathlib.Core.List.{List, [], ◌∷◌}
 use native.Mathlib.Omega.{arith}
 use lib.ListN.{length, length-append}
-use Rattle.frames.specs.Packets.{Packet, public_key, pairingConfirm, code_of, payload_of, frame, framed, channel}
+use Rattle.frames.specs.Packets.{Packet, public_key, pairing_confirm, code_of, payload_of, frame, framed, channel}
 use Rattle.frames.proofs.Frames.{length_frame, length_value, length_key}
 use Rattle.protocol.specs.Role.{enough}
 
@@ -16,5 +16,5 @@ two_packets p q n k e d =
     omega (arith, length-append (frame channel (code_of p) (payload_of p)) (framed channel (q ∷ [])), one_packet p n e, one_packet q k d)
 
 -- a public key and a confirm
-pub longest : (x y v : List ℕ) → length x ≡ 32 → length y ≡ 32 → length v ≡ 16 → length (framed channel (public_key x y ∷ pairingConfirm v ∷ [])) ≡ enough
-longest x y v e d h = two_packets (public_key x y) (pairingConfirm v) 64 16 (length_key x y e d) (length_value v 16 h)
+pub longest : (x y v : List ℕ) → length x ≡ 32 → length y ≡ 32 → length v ≡ 16 → length (framed channel (public_key x y ∷ pairing_confirm v ∷ [])) ≡ enough
+longest x y v e d h = two_packets (public_key x y) (pairing_confirm v) 64 16 (length_key x y e d) (length_value v 16 h)

@@ -31,5 +31,6 @@ All P [] = Unit {0}
 All P (x ∷ l) = P x × All P l
 
 pub among : {A : Type 0} (P : A → Type 0) (l : List A) → All P l → (x : A) → Memᴰ x l → P x
+among {A = A} P [] h x m = elim m [ ]
 among P (y ∷ l) h x (Memᴰ.head e) = rw e h.0
 among P (y ∷ l) h x (Memᴰ.tail i) = among P l h.1 x i

@@ -5,7 +5,6 @@ use mathlib.Core.List.{List, [], ◌∷◌}
 use mathlib.Core.Bool.{true, false}
 use lib.ListN.{length, get_or, take, drop}
 use lib.Seq.{take_all}
-use lib.Dec.{ltb}
 use native.Mathlib.Omega.{arith}
 use borrow.Author.Tests.{ltb-true, ltb-false}
 use Rattle.protocol.specs.declared.ConnectionEvent.TheVariants as E

@@ -1,5 +1,7 @@
 // What both roles share: why a pairing fails and a call is refused, what a side is, what it has exchanged, what a step is handed, asks and
 // gives back. `own` is this side, `peer` the other one. All octet strings are most significant octet first.
+#![tactic(auto)]
+
 use address::Address;
 use features::{IoCapabilities, PairingFeatures, UseOutOfBand};
 use method::SecurityLevel;
@@ -8,7 +10,7 @@ use method::SecurityLevel;
 pub const ENOUGH: usize = 90;
 
 // Why a pairing failed.
-#[derive(Drop)]
+#[derive(Clone, Copy)]
 pub enum Failure {
     InvalidState,
     InvalidValue,
@@ -24,14 +26,14 @@ pub enum Failure {
 }
 
 // Why a call was refused. A refused call changes nothing.
-#[derive(Drop)]
+#[derive(Clone, Copy)]
 pub enum Refusal {
     Finished,
     OutboxShort,
     PasskeyRange,
 }
 
-#[derive(Drop)]
+#[derive(Clone, Copy)]
 pub enum Answer {
     Taken,
     Failed(Failure),
@@ -39,28 +41,28 @@ pub enum Answer {
 }
 
 // Whether a call is let in, or why it is refused.
-#[derive(Drop)]
+#[derive(Clone, Copy)]
 pub enum Gate {
     Open,
     Shut(Refusal),
 }
 
 // Whether a command is the one that is awaited, or how the pairing fails for it.
-#[derive(Drop)]
+#[derive(Clone, Copy)]
 pub enum Verdict {
     Awaited,
     Wrong(Failure),
 }
 
 // Whether a peer's features are acceptable.
-#[derive(Drop)]
+#[derive(Clone, Copy)]
 pub enum Acceptance {
     Accepted(PairingFeatures),
     Rejected(Failure),
 }
 
 // What may come in beside a command. The values of OobDataReceived stand beside it, in `OobData`.
-#[derive(Drop)]
+#[derive(Clone, Copy)]
 pub enum Event {
     LinkEncryptedResult(bool),
     PassKeyConfirm,
@@ -70,7 +72,7 @@ pub enum Event {
 }
 
 // The out-of-band values of OobDataReceived: the random that we gave out, and the peer's random and confirm.
-#[derive(Drop)]
+#[derive(Clone, Copy)]
 pub struct OobData {
     pub ownrandom: [u8; 16],
     pub peerrandom: [u8; 16],
@@ -78,7 +80,7 @@ pub struct OobData {
 }
 
 // What the user is told. PairingComplete has the level, and whether the bond is reported: it is then the state's.
-#[derive(Drop)]
+#[derive(Clone, Copy)]
 pub enum ConnectionEvent {
     Nothing,
     BondLost,
@@ -90,7 +92,7 @@ pub enum ConnectionEvent {
     PairingFailed(Failure),
 }
 
-#[derive(Drop)]
+#[derive(Clone, Copy)]
 pub enum ActionKind {
     Nothing,
     EnableEncryption,
@@ -98,14 +100,14 @@ pub enum ActionKind {
 }
 
 // What the box is to do. Encryption is enabled with the bond's link key and level.
-#[derive(Drop)]
+#[derive(Clone, Copy)]
 pub struct Action {
     pub kind: ActionKind,
     pub bond: Bond,
 }
 
 // No IRK is sixteen zeros.
-#[derive(Drop)]
+#[derive(Clone, Copy)]
 pub struct Bond {
     pub ltk: [u8; 16],
     pub level: SecurityLevel,
@@ -114,13 +116,13 @@ pub struct Bond {
 }
 
 // A bond, or none: then its values say nothing.
-#[derive(Drop)]
+#[derive(Clone, Copy)]
 pub struct MaybeBond {
     pub there: bool,
     pub bond: Bond,
 }
 
-#[derive(Drop)]
+#[derive(Clone, Copy)]
 pub enum Configured {
     Nothing,
     Passkey(u32),
@@ -128,7 +130,7 @@ pub enum Configured {
 
 // What a side is. `keyx` and `keyy` are its public key, `own` and `peer` the addresses of the connection, `identity` is the address that
 // its identity key goes with, `known` the bond with this peer.
-#[derive(Drop)]
+#[derive(Clone, Copy)]
 pub struct Setup {
     pub io: IoCapabilities,
     pub oob: UseOutOfBand,
@@ -144,7 +146,7 @@ pub struct Setup {
 }
 
 // What the two sides have exchanged. `confirm` is the peer's; `held` is an early confirm or DHKey check.
-#[derive(Drop)]
+#[derive(Clone, Copy)]
 pub struct Secrets {
     pub peerx: [u8; 32],
     pub dhkey: [u8; 32],
@@ -158,7 +160,7 @@ pub struct Secrets {
 }
 
 // What a call is handed from outside: drawn values, and the answers to the questions that the step announces.
-#[derive(Drop)]
+#[derive(Clone, Copy)]
 pub struct Supplied {
     pub nonce: [u8; 16],
     pub passkey: u32,
@@ -174,7 +176,7 @@ pub struct Supplied {
 }
 
 // A question to the cryptography outside, each with its arguments in Part H's order.
-#[derive(Drop)]
+#[derive(Clone, Copy)]
 pub enum QuestionKind {
     Nothing,
     // the DHKey of the peer's public key: x in u, y in v
@@ -192,7 +194,7 @@ pub enum QuestionKind {
 }
 
 // What a kind of question doesn't take is zero.
-#[derive(Drop)]
+#[derive(Clone, Copy)]
 pub struct Question {
     pub kind: QuestionKind,
     pub u: [u8; 32],
@@ -208,7 +210,7 @@ pub struct Question {
 }
 
 // Which answers have been given so far, by the question.
-#[derive(Drop)]
+#[derive(Clone, Copy)]
 pub struct Given {
     pub dh: bool,
     pub ownconfirm: bool,

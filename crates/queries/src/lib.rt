@@ -1,4 +1,6 @@
 // What is to be known of a pairing from outside.
+#![tactic(auto)]
+
 ghost use Rattle.std.specs.Prelude.{◌≡◌};
 ghost use Rattle.machine.specs.Level.{encrypted, security_level};
 ghost use Rattle.queries.specs.Result.{result_of};
@@ -9,7 +11,7 @@ use method::SecurityLevel;
 use protocol::{Failure, MaybeBond};
 use responder::Responder;
 
-#[derive(Drop)]
+#[derive(Clone, Copy)]
 pub enum PairingResult {
     Running,
     Succeeded,

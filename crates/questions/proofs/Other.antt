@@ -1,15 +1,11 @@
 -- What the last arm of a match takes: a phase, an event and a method of which nothing is asked. Assumes nothing.
 use Prim.Native.Nat.{ℕ}
-use Prim.{tt}
 use mathlib.Core.Path.{◌≡◌, refl}
-use mathlib.Core.List.{List, [], ◌∷◌}
+use mathlib.Core.List.{List}
 use mathlib.Core.Bool.{Bool}
-use types.Run.{OneOf, miss}
-use denote.Enum.Declared.{tag_of}
 use Rattle.method.specs.declared.PairingMethod.{PairingMethod}
 use Rattle.method.specs.declared.PairingMethod.TheVariants.{JustWorks, NumericComparison, PassKeyEntry, OutOfBand}
 use Rattle.method.specs.declared.PassKeyEntryAction.TheVariants as W
-use Rattle.method.specs.contracts.PairingMethod as method
 use Rattle.protocol.specs.declared.Acceptance.{Acceptance}
 use Rattle.protocol.specs.declared.Acceptance.TheVariants as X
 use Rattle.protocol.specs.declared.Configured.{Configured}
@@ -24,7 +20,6 @@ use Rattle.protocol.specs.declared.Supplied.{Supplied}
 use Rattle.protocol.specs.Plan.{ends}
 use Rattle.protocol.specs.Parts.{no_question, accept_of, accepting, shown}
 use Rattle.protocol.specs.Next.{Queried}
-use Rattle.protocol.specs.contracts.Event as event
 use Rattle.protocol.proofs.Next.{asks_nothing, draws, draws_passkey_lem, either}
 use Rattle.machine.specs.declared.Phase.{Phase}
 use Rattle.machine.specs.declared.Phase.TheVariants as P
@@ -36,7 +31,6 @@ use Rattle.machine.specs.Passkey.{on_typing}
 use Rattle.machine.specs.Oob.{on_oob_data}
 use Rattle.machine.specs.Keys.{on_bonded_link, on_encrypted}
 use Rattle.machine.specs.Responder.{on_command, on_event}
-use Rattle.machine.specs.contracts.Phase as phase
 
 module _ (g : Given) (a : Supplied) (r : Question) (none : r ≡ no_question) where
   accepted : (m : State) (x : Acceptance) → Queried g a (accepting (lost m) x λ f. ends (responding m f)) r
@@ -57,96 +51,74 @@ module _ (g : Given) (a : Supplied) (r : Question) (none : r ≡ no_question) wh
   encrypted m (I.PassKeyInput p) = asks_nothing none
   encrypted m I.OobDataReceived = asks_nothing none
 
-  -- the places, in the enum, of what the arm takes
-  abbrev command_rest : List ℕ
-  command_rest = 0 ∷ 3 ∷ 4 ∷ 7 ∷ 8 ∷ 10 ∷ 11 ∷ 12 ∷ 13 ∷ 14 ∷ []
+  pub command_other : (x : Phase) (m : State) (code : ℕ) (body : List ℕ) → (x ≡ P.WaitingPublicKey → ⊥) → (x ≡ P.WaitingNumericComparisonRandom → ⊥) → ((round : ℕ) → x ≡ P.WaitingPassKeyEntryConfirm round → ⊥) → ((round : ℕ) → x ≡ P.WaitingPassKeyEntryRandom round → ⊥) → (x ≡ P.WaitingDHKeyEa → ⊥) → Queried g a (on_command x m code body) r
+  command_other P.WaitingPairingRequest m code body n1 n2 n3 n4 n5 = either (accepted m (accept_of body)) (asks_nothing none)
+  command_other P.WaitingPublicKey m code body n1 n2 n3 n4 n5 = absurd (n1 refl)
+  command_other P.WaitingNumericComparisonRandom m code body n1 n2 n3 n4 n5 = absurd (n2 refl)
+  command_other (P.WaitingNumericComparisonResult held) m code body n1 n2 n3 n4 n5 = either (either (either (asks_nothing none) (asks_nothing none)) (asks_nothing none)) (asks_nothing none)
+  command_other (P.WaitingPassKeyInput held) m code body n1 n2 n3 n4 n5 = either (either (either (asks_nothing none) (asks_nothing none)) (asks_nothing none)) (asks_nothing none)
+  command_other (P.WaitingPassKeyEntryConfirm round) m code body n1 n2 n3 n4 n5 = absurd (n3 round refl)
+  command_other (P.WaitingPassKeyEntryRandom round) m code body n1 n2 n3 n4 n5 = absurd (n4 round refl)
+  command_other P.WaitingOobData m code body n1 n2 n3 n4 n5 = asks_nothing none
+  command_other P.WaitingOobRandom m code body n1 n2 n3 n4 n5 = either (either (draws (asks_nothing none)) (asks_nothing none)) (asks_nothing none)
+  command_other P.WaitingDHKeyEa m code body n1 n2 n3 n4 n5 = absurd (n5 refl)
+  command_other P.WaitingLinkEncrypted m code body n1 n2 n3 n4 n5 = asks_nothing none
+  command_other P.WaitingIdentitityInformation m code body n1 n2 n3 n4 n5 = either (either (asks_nothing none) (asks_nothing none)) (asks_nothing none)
+  command_other P.WaitingIdentitityAddressInformation m code body n1 n2 n3 n4 n5 = either (either (asks_nothing none) (asks_nothing none)) (asks_nothing none)
+  command_other P.Success m code body n1 n2 n3 n4 n5 = asks_nothing none
+  command_other (P.Error f) m code body n1 n2 n3 n4 n5 = asks_nothing none
 
-  pub command_other : (x : Phase) (m : State) (code : ℕ) (body : List ℕ) → OneOf command_rest (tag_of phase.the_type x) → Queried g a (on_command x m code body) r
-  command_other P.WaitingPairingRequest m code body k = either (accepted m (accept_of body)) (asks_nothing none)
-  command_other P.WaitingPublicKey m code body k = absurd (miss command_rest 1 tt k)
-  command_other P.WaitingNumericComparisonRandom m code body k = absurd (miss command_rest 2 tt k)
-  command_other (P.WaitingNumericComparisonResult held) m code body k = either (either (either (asks_nothing none) (asks_nothing none)) (asks_nothing none)) (asks_nothing none)
-  command_other (P.WaitingPassKeyInput held) m code body k = either (either (either (asks_nothing none) (asks_nothing none)) (asks_nothing none)) (asks_nothing none)
-  command_other (P.WaitingPassKeyEntryConfirm round) m code body k = absurd (miss command_rest 5 tt k)
-  command_other (P.WaitingPassKeyEntryRandom round) m code body k = absurd (miss command_rest 6 tt k)
-  command_other P.WaitingOobData m code body k = asks_nothing none
-  command_other P.WaitingOobRandom m code body k = either (either (draws (asks_nothing none)) (asks_nothing none)) (asks_nothing none)
-  command_other P.WaitingDHKeyEa m code body k = absurd (miss command_rest 9 tt k)
-  command_other P.WaitingLinkEncrypted m code body k = asks_nothing none
-  command_other P.WaitingIdentitityInformation m code body k = either (either (asks_nothing none) (asks_nothing none)) (asks_nothing none)
-  command_other P.WaitingIdentitityAddressInformation m code body k = either (either (asks_nothing none) (asks_nothing none)) (asks_nothing none)
-  command_other P.Success m code body k = asks_nothing none
-  command_other (P.Error f) m code body k = asks_nothing none
+  pub event_other : (x : Phase) (m : State) (e : Event) (o : OobData) → ((held : Bool) → x ≡ P.WaitingNumericComparisonResult held → ⊥) → ((held : Bool) → x ≡ P.WaitingPassKeyInput held → ⊥) → (x ≡ P.WaitingOobData → ⊥) → Queried g a (on_event x m e o) r
+  event_other P.WaitingPairingRequest m e o n1 n2 n3 = bonded m e
+  event_other P.WaitingPublicKey m e o n1 n2 n3 = asks_nothing none
+  event_other P.WaitingNumericComparisonRandom m e o n1 n2 n3 = asks_nothing none
+  event_other (P.WaitingNumericComparisonResult held) m e o n1 n2 n3 = absurd (n1 held refl)
+  event_other (P.WaitingPassKeyInput held) m e o n1 n2 n3 = absurd (n2 held refl)
+  event_other (P.WaitingPassKeyEntryConfirm round) m e o n1 n2 n3 = asks_nothing none
+  event_other (P.WaitingPassKeyEntryRandom round) m e o n1 n2 n3 = asks_nothing none
+  event_other P.WaitingOobData m e o n1 n2 n3 = absurd (n3 refl)
+  event_other P.WaitingOobRandom m e o n1 n2 n3 = asks_nothing none
+  event_other P.WaitingDHKeyEa m e o n1 n2 n3 = asks_nothing none
+  event_other P.WaitingLinkEncrypted m e o n1 n2 n3 = encrypted m e
+  event_other P.WaitingIdentitityInformation m e o n1 n2 n3 = asks_nothing none
+  event_other P.WaitingIdentitityAddressInformation m e o n1 n2 n3 = asks_nothing none
+  event_other P.Success m e o n1 n2 n3 = asks_nothing none
+  event_other (P.Error f) m e o n1 n2 n3 = asks_nothing none
 
-  abbrev event_rest : List ℕ
-  event_rest = 0 ∷ 1 ∷ 2 ∷ 5 ∷ 6 ∷ 8 ∷ 9 ∷ 10 ∷ 11 ∷ 12 ∷ 13 ∷ 14 ∷ []
+  pub comparison_other : (m : State) (held : Bool) (x : Event) → (x ≡ I.PassKeyConfirm → ⊥) → Queried g a (on_comparison m held x) r
+  comparison_other m held (I.LinkEncryptedResult ok) n = asks_nothing none
+  comparison_other m held I.PassKeyConfirm n = absurd (n refl)
+  comparison_other m held I.PassKeyCancel n = asks_nothing none
+  comparison_other m held (I.PassKeyInput p) n = asks_nothing none
+  comparison_other m held I.OobDataReceived n = asks_nothing none
 
-  pub event_other : (x : Phase) (m : State) (e : Event) (o : OobData) → OneOf event_rest (tag_of phase.the_type x) → Queried g a (on_event x m e o) r
-  event_other P.WaitingPairingRequest m e o k = bonded m e
-  event_other P.WaitingPublicKey m e o k = asks_nothing none
-  event_other P.WaitingNumericComparisonRandom m e o k = asks_nothing none
-  event_other (P.WaitingNumericComparisonResult held) m e o k = absurd (miss event_rest 3 tt k)
-  event_other (P.WaitingPassKeyInput held) m e o k = absurd (miss event_rest 4 tt k)
-  event_other (P.WaitingPassKeyEntryConfirm round) m e o k = asks_nothing none
-  event_other (P.WaitingPassKeyEntryRandom round) m e o k = asks_nothing none
-  event_other P.WaitingOobData m e o k = absurd (miss event_rest 7 tt k)
-  event_other P.WaitingOobRandom m e o k = asks_nothing none
-  event_other P.WaitingDHKeyEa m e o k = asks_nothing none
-  event_other P.WaitingLinkEncrypted m e o k = encrypted m e
-  event_other P.WaitingIdentitityInformation m e o k = asks_nothing none
-  event_other P.WaitingIdentitityAddressInformation m e o k = asks_nothing none
-  event_other P.Success m e o k = asks_nothing none
-  event_other (P.Error f) m e o k = asks_nothing none
+  pub typing_other : (m : State) (held : Bool) (x : Event) → ((p : ℕ) → x ≡ I.PassKeyInput p → ⊥) → Queried g a (on_typing m held x) r
+  typing_other m held (I.LinkEncryptedResult ok) n = asks_nothing none
+  typing_other m held I.PassKeyConfirm n = asks_nothing none
+  typing_other m held I.PassKeyCancel n = asks_nothing none
+  typing_other m held (I.PassKeyInput p) n = absurd (n p refl)
+  typing_other m held I.OobDataReceived n = asks_nothing none
 
-  abbrev comparison_rest : List ℕ
-  comparison_rest = 0 ∷ 2 ∷ 3 ∷ 4 ∷ []
-
-  pub comparison_other : (m : State) (held : Bool) (x : Event) → OneOf comparison_rest (tag_of event.the_type x) → Queried g a (on_comparison m held x) r
-  comparison_other m held (I.LinkEncryptedResult ok) k = asks_nothing none
-  comparison_other m held I.PassKeyConfirm k = absurd (miss comparison_rest 1 tt k)
-  comparison_other m held I.PassKeyCancel k = asks_nothing none
-  comparison_other m held (I.PassKeyInput p) k = asks_nothing none
-  comparison_other m held I.OobDataReceived k = asks_nothing none
-
-  abbrev typing_rest : List ℕ
-  typing_rest = 0 ∷ 1 ∷ 2 ∷ 4 ∷ []
-
-  pub typing_other : (m : State) (held : Bool) (x : Event) → OneOf typing_rest (tag_of event.the_type x) → Queried g a (on_typing m held x) r
-  typing_other m held (I.LinkEncryptedResult ok) k = asks_nothing none
-  typing_other m held I.PassKeyConfirm k = asks_nothing none
-  typing_other m held I.PassKeyCancel k = asks_nothing none
-  typing_other m held (I.PassKeyInput p) k = absurd (miss typing_rest 3 tt k)
-  typing_other m held I.OobDataReceived k = asks_nothing none
-
-  abbrev received_rest : List ℕ
-  received_rest = 0 ∷ 1 ∷ 2 ∷ 3 ∷ []
-
-  pub received_other : (m : State) (x : Event) (o : OobData) → OneOf received_rest (tag_of event.the_type x) → Queried g a (on_oob_data m x o) r
-  received_other m (I.LinkEncryptedResult ok) o k = asks_nothing none
-  received_other m I.PassKeyConfirm o k = asks_nothing none
-  received_other m I.PassKeyCancel o k = asks_nothing none
-  received_other m (I.PassKeyInput p) o k = asks_nothing none
-  received_other m I.OobDataReceived o k = absurd (miss received_rest 4 tt k)
+  pub received_other : (m : State) (x : Event) (o : OobData) → (x ≡ I.OobDataReceived → ⊥) → Queried g a (on_oob_data m x o) r
+  received_other m (I.LinkEncryptedResult ok) o n = asks_nothing none
+  received_other m I.PassKeyConfirm o n = asks_nothing none
+  received_other m I.PassKeyCancel o n = asks_nothing none
+  received_other m (I.PassKeyInput p) o n = asks_nothing none
+  received_other m I.OobDataReceived o n = absurd (n refl)
 
   showed : (c : Configured) (m : State) (s : Secrets) → Queried g a (shown c λ p. ends (showing m s p)) r
   showed C.Nothing m s = draws_passkey_lem (either (asks_nothing none) (asks_nothing none))
   showed (C.Passkey p) m s = asks_nothing none
 
-  abbrev key_rest : List ℕ
-  key_rest = 2 ∷ 3 ∷ []
+  pub key_other : (x : PairingMethod) (m : State) (s : Secrets) → (x ≡ JustWorks → ⊥) → (x ≡ NumericComparison → ⊥) → Queried g a (begins x m s) r
+  key_other JustWorks m s n1 n2 = absurd (n1 refl)
+  key_other NumericComparison m s n1 n2 = absurd (n2 refl)
+  key_other (PassKeyEntry central W.Display) m s n1 n2 = showed m.setup.passkey m s
+  key_other (PassKeyEntry central W.Input) m s n1 n2 = asks_nothing none
+  key_other OutOfBand m s n1 n2 = asks_nothing none
 
-  pub key_other : (x : PairingMethod) (m : State) (s : Secrets) → OneOf key_rest (tag_of method.the_type x) → Queried g a (begins x m s) r
-  key_other JustWorks m s k = absurd (miss key_rest 0 tt k)
-  key_other NumericComparison m s k = absurd (miss key_rest 1 tt k)
-  key_other (PassKeyEntry central W.Display) m s k = showed m.setup.passkey m s
-  key_other (PassKeyEntry central W.Input) m s k = asks_nothing none
-  key_other OutOfBand m s k = asks_nothing none
-
-abbrev compare_rest : List ℕ
-compare_rest = 1 ∷ 2 ∷ 3 ∷ []
-
-pub compare_other : (x : PairingMethod) (m : State) (nonce : List ℕ) → OneOf compare_rest (tag_of method.the_type x) → compares x m nonce ≡ numbering m nonce
-compare_other JustWorks m nonce k = absurd (miss compare_rest 0 tt k)
-compare_other NumericComparison m nonce k = refl
-compare_other (PassKeyEntry central peripheral) m nonce k = refl
-compare_other OutOfBand m nonce k = refl
+pub compare_other : (x : PairingMethod) (m : State) (nonce : List ℕ) → (x ≡ JustWorks → ⊥) → compares x m nonce ≡ numbering m nonce
+compare_other JustWorks m nonce n = absurd (n refl)
+compare_other NumericComparison m nonce n = refl
+compare_other (PassKeyEntry central peripheral) m nonce n = refl
+compare_other OutOfBand m nonce n = refl

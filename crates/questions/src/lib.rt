@@ -1,5 +1,7 @@
 // The query: for a state, an input, the drawn values and the answers so far, the next question to the cryptography outside, with all
 // its arguments, or none. It changes nothing and takes no outbox.
+#![tactic(auto)]
+
 ghost use Rattle.std.specs.Prelude.{ℕ, ◌≡◌, List, true, false, cond};
 ghost use Rattle.protocol.specs.declared.Failure.TheVariants as F;
 ghost use Rattle.protocol.specs.Plan.{needs};

@@ -1,5 +1,7 @@
 // The pairing request (Part H 2.3.5.1, 3.5.1, 3.5.2): what makes one acceptable, what we say of ourselves, and the step of
 // WaitingPairingRequest.
+#![tactic(auto)]
+
 ghost use Rattle.std.specs.Prelude.{◌≡◌, cond, not, ◌&&◌};
 ghost use Rattle.octets.specs.Octets.{all_zero};
 ghost use Rattle.features.specs.Bits.{identity_bit};

@@ -1,5 +1,7 @@
 // The Secure Connections responder. Its state goes by value: each method takes it with one input and hands back the state after it,
 // with what stands in the outbox, the user's events, the action and the answer.
+#![tactic(auto)]
+
 ghost use Rattle.std.specs.Prelude.{◌≡◌, length};
 ghost use Rattle.frames.specs.Packets.{channel};
 ghost use Rattle.protocol.specs.Role.{command, event, step, questions, timed_out};
@@ -13,12 +15,12 @@ use protocol::{
     Action, Answer, ConnectionEvent, Event, Failure, Given, OobData, Question, Supplied,
 };
 
-#[derive(Drop)]
+#[derive(Clone, Copy)]
 pub struct Responder {
     pub state: State,
 }
 
-#[derive(Drop)]
+#[derive(Clone, Copy)]
 pub struct Stepped {
     pub responder: Responder,
     pub sent: usize,

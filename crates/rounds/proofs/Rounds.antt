@@ -1,10 +1,9 @@
 -- Laws on rounds and bits, for both roles: what z can be, which round follows, and that twenty rounds tell any two passkeys apart.
 -- Assumes nothing.
-use mathlib.Core.Path.{◌≡◌, refl, sym, ap, ◌∙◌}
+use mathlib.Core.Path.{◌≡◌, sym, ◌∙◌}
 use mathlib.Core.Bool.{true}
-use Prim.Native.Nat.{ℕ, zero, suc, ◌+◌, ◌*◌, ◌/◌, ◌%◌, ◌^◌, ◌<◌, ◌≤◌}
+use Prim.Native.Nat.{ℕ, zero, suc, ◌+◌, ◌/◌, ◌%◌, ◌^◌, ◌<◌, ◌≤◌}
 use native.Mathlib.Omega.{arith}
-use native.Mathlib.Numerals.{add-one}
 use native.Mathlib.Nat.{mod-lt, div-eq_of_lt, zero-mod, lt_of_lt_of_le, pow-le-pow_right, pow-suc, pow-succ', div-one, div-div-eq-div-mul, div-lt_iff_lt-mul, div-add-mod'}
 use borrow.Author.Tests.{lt-ltb, le-ltb, leb-true}
 use Rattle.rounds.specs.declared.Following.TheVariants.{Round, DHKeyCheck}

@@ -2,11 +2,10 @@
 -- passkeys apart. Assumes nothing.
 use mathlib.Core.Path.{◌≡◌, refl}
 use mathlib.Core.List.{map}
-use mathlib.Core.Bool.{true, ◌&&◌}
+use mathlib.Core.Bool.{true}
 use lib.ListN.{take}
 use Rattle.rounds.specs.Rounds.{z_of, in_range}
 use Rattle.rounds.specs.Samples.{twenty, made, samples}
-use Rattle.rounds.specs.Samples as S
 
 -- P7 and P8
 pub samples_hold : map made samples ≡ map (λ s. s.zs) samples

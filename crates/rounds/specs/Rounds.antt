@@ -1,5 +1,5 @@
 -- Passkey entry: the rounds, their bits, and the passkey as a secret.
-use Rattle.std.specs.Prelude.{ℕ, ◌+◌, ◌*◌, ◌/◌, ◌%◌, ◌^◌, List, [], ◌∷◌, ◌++◌, Bool, cond, replicate, ltb, leb}
+use Rattle.std.specs.Prelude.{ℕ, ◌+◌, ◌/◌, ◌%◌, ◌^◌, List, [], ◌∷◌, ◌++◌, Bool, cond, replicate, ltb, leb}
 use Rattle.rounds.specs.declared.Following.{Following}
 use Rattle.rounds.specs.declared.Following.TheVariants.{Round, DHKeyCheck}
 

@@ -1,10 +1,12 @@
 // Passkey entry's twenty rounds (Part H 2.3.5.6.3): which bit of the passkey a round shows, which round follows, and the passkey as
 // the secret of the DHKey check. Responder and initiator both go by these.
+#![tactic(auto)]
+
 ghost use Rattle.std.specs.Prelude.{◌≡◌};
 ghost use Rattle.rounds.specs.Rounds.{z_of, after_of, in_range, secret_of};
 
 // What follows a round.
-#[derive(Drop)]
+#[derive(Clone, Copy)]
 pub enum Following {
     Round(u8),
     DHKeyCheck,

@@ -1,5 +1,7 @@
 // Setups as bytes: the payload of docs/CALLS.md, kind 1, read and written. Reading says whether a payload fits; writing refuses what no
 // payload can carry.
+#![tactic(auto)]
+
 ghost use Rattle.std.specs.Prelude.{◌≡◌, ◌++◌, ◌≤◌, ◌<◌, length, get_or, take};
 ghost use Rattle.octets.specs.Write.{Wrote};
 ghost use Rattle.fields.specs.Fields.{number_at, join, Placed};
@@ -31,7 +33,7 @@ use method::SecurityLevel;
 use protocol::{Bond, Configured, MaybeBond, Setup};
 
 // How the pairing starts: plain, or with a Security Request by the user's wish or not.
-#[derive(Drop)]
+#[derive(Clone, Copy)]
 pub enum StartKind {
     Plain,
     ByUser,
@@ -39,7 +41,7 @@ pub enum StartKind {
 }
 
 // `outbox` is the outbox's length.
-#[derive(Drop)]
+#[derive(Clone, Copy)]
 pub struct SetupCall {
     pub start: StartKind,
     pub outbox: usize,
@@ -47,7 +49,7 @@ pub struct SetupCall {
 }
 
 // A payload that doesn't fit gives the call of an empty one: zeros.
-#[derive(Drop)]
+#[derive(Clone, Copy)]
 pub struct ReadSetup {
     pub fits: bool,
     pub call: SetupCall,

@@ -1,6 +1,8 @@
 // What every step uses. First the values that a state is made of: secrets as they begin and once a passkey is known, no bond, no action,
 // whether a machine is finished, whether an event's passkey is in range. Then the ways a step ends: refused, failed, gone on or succeeded;
 // frames are in the outbox by then, and `sent` counts their octets.
+#![tactic(auto)]
+
 ghost use Rattle.std.specs.Prelude.{◌≡◌, []};
 ghost use Rattle.protocol.specs.Plan.{no_bond, no_action, refuses, fails, goes};
 ghost use Rattle.protocol.specs.Exchanged.{fresh, set_passkey};

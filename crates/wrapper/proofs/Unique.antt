@@ -1,5 +1,5 @@
 -- No second answer meets a contract of this crate. Assumes nothing.
-use mathlib.Core.Path.{◌≡◌, sym, ◌∙◌}
+use mathlib.Core.Path.{sym, ◌∙◌}
 use Rattle.octets.proofs.Settles.{Unique, Settles, only}
 use Rattle.wrapper.proofs.new_peripheral.Reads as new-peripheral
 use Rattle.wrapper.proofs.initiate_peripheral.Reads as initiate-peripheral

@@ -1,4 +1,6 @@
 // How a pairing begins: plain, or with a Security Request.
+#![tactic(auto)]
+
 ghost use Rattle.std.specs.Prelude.{◌≡◌, length};
 ghost use Rattle.machine.specs.State.{fresh_state};
 ghost use Rattle.wrapper.specs.Starts.{begun_of, started_of, Opened, suits, start_refused, start_of, authenticated, asks_mitm, initiate_of};
@@ -9,13 +11,13 @@ use method::{PairingMethod, SecurityLevel};
 use protocol::{Configured, Failure, MaybeBond, Refusal, Setup};
 use responder::Responder;
 
-#[derive(Drop)]
+#[derive(Clone, Copy)]
 pub enum Start {
     Started,
     Refused(Refusal),
 }
 
-#[derive(Drop)]
+#[derive(Clone, Copy)]
 pub struct Begun {
     pub responder: Responder,
     pub sent: usize,

@@ -1,0 +1,8 @@
+-- `fields::bytes4` meets its contract. Assumes nothing.
+use mathlib.Core.Path.{refl}
+use Rattle.fields.specs.Fields.{little}
+use Rattle.fields.proofs.bytes4.Goals as goal
+
+pub returns : goal.returns
+unfolding little
+returns c = refl
