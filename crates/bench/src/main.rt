@@ -1,4 +1,6 @@
 // Drives the responder from outside: records on standard input, a line for each on standard output (docs/CALLS.md).
-fn main() {
-    walk::walk();
+#![tactic(auto)]
+
+fn main(rt: HostRuntime) {
+    walk::walk(&rt);
 }

@@ -1,29 +1,34 @@
 // Runs all 400 combinations of IO capability, OOB flag and MITM bit of both sides through both choosers and writes a line for each.
 // What it must write comes from the Rust crate's own choosers (oracle/combinations).
+#![tactic(auto)]
+
 use features::{IoCapabilities, PairingFeatures, UseOutOfBand};
 use method::{PairingMethod, PassKeyEntryAction, SecurityLevel};
+use std::io;
 
-fn main() {
-    let mut n: u32 = 0;
-    while n < 400 {
-        combination(n);
-        n += 1;
+fn main(rt: HostRuntime) -> io::Result<()> {
+    for n in 0..400u32 {
+        combination(&rt, n)?;
     }
+    Ok(())
 }
 
 // Combination n: the peripheral's MITM bit changes fastest, the central's IO capability slowest.
-fn combination(n: u32) {
+fn combination(rt: &impl Print, n: u32) -> io::Result<()> {
     let central = side(n / 80, n / 8 % 2, n / 2 % 2);
     let peripheral = side(n / 16 % 5, n / 4 % 2, n % 2);
-    io::write_all(1, b"central ");
-    write_side(central);
-    io::write_all(1, b" peripheral ");
-    write_side(peripheral);
-    io::write_all(1, b" lesc ");
-    write_method(method::choose_pairing_method(central, peripheral));
-    io::write_all(1, b" legacy ");
-    write_method(method::choose_legacy_pairing_method(central, peripheral));
-    io::write_all(1, b"\n");
+    rt.write_all(b"central ")?;
+    write_side(rt, central)?;
+    rt.write_all(b" peripheral ")?;
+    write_side(rt, peripheral)?;
+    rt.write_all(b" lesc ")?;
+    write_method(rt, method::choose_pairing_method(central, peripheral))?;
+    rt.write_all(b" legacy ")?;
+    write_method(
+        rt,
+        method::choose_legacy_pairing_method(central, peripheral),
+    )?;
+    rt.write_all(b"\n")
 }
 
 fn side(io: u32, oob: u32, mitm: u32) -> PairingFeatures {
@@ -51,60 +56,58 @@ fn capability(io: u32) -> IoCapabilities {
     }
 }
 
-fn write_side(side: PairingFeatures) {
+fn write_side(rt: &impl Print, side: PairingFeatures) -> io::Result<()> {
     let io = side.io;
     match io {
-        IoCapabilities::DisplayOnly => io::write_all(1, b"DisplayOnly"),
-        IoCapabilities::DisplayYesNo => io::write_all(1, b"DisplayYesNo"),
-        IoCapabilities::KeyboardOnly => io::write_all(1, b"KeyboardOnly"),
-        IoCapabilities::NoInputNoOutput => io::write_all(1, b"NoInputNoOutput"),
-        IoCapabilities::KeyboardDisplay => io::write_all(1, b"KeyboardDisplay"),
-    };
+        IoCapabilities::DisplayOnly => rt.write_all(b"DisplayOnly")?,
+        IoCapabilities::DisplayYesNo => rt.write_all(b"DisplayYesNo")?,
+        IoCapabilities::KeyboardOnly => rt.write_all(b"KeyboardOnly")?,
+        IoCapabilities::NoInputNoOutput => rt.write_all(b"NoInputNoOutput")?,
+        IoCapabilities::KeyboardDisplay => rt.write_all(b"KeyboardDisplay")?,
+    }
     let oob = side.oob;
     match oob {
-        UseOutOfBand::NotPresent => io::write_all(1, b" oob 0 mitm "),
-        UseOutOfBand::Present => io::write_all(1, b" oob 1 mitm "),
-    };
+        UseOutOfBand::NotPresent => rt.write_all(b" oob 0 mitm ")?,
+        UseOutOfBand::Present => rt.write_all(b" oob 1 mitm ")?,
+    }
     if side.man_in_the_middle() {
-        io::write_all(1, b"1");
+        rt.write_all(b"1")
     } else {
-        io::write_all(1, b"0");
+        rt.write_all(b"0")
     }
 }
 
-fn write_method(method: PairingMethod) {
+fn write_method(rt: &impl Print, method: PairingMethod) -> io::Result<()> {
     match method {
-        PairingMethod::JustWorks => {
-            io::write_all(1, b"JustWorks ");
-        }
-        PairingMethod::NumericComparison => {
-            io::write_all(1, b"NumericComparison ");
-        }
+        PairingMethod::JustWorks => rt.write_all(b"JustWorks ")?,
+        PairingMethod::NumericComparison => rt.write_all(b"NumericComparison ")?,
         PairingMethod::PassKeyEntry {
             central,
             peripheral,
-        } => write_roles(central, peripheral),
-        PairingMethod::OutOfBand => {
-            io::write_all(1, b"OutOfBand ");
-        }
+        } => write_roles(rt, central, peripheral)?,
+        PairingMethod::OutOfBand => rt.write_all(b"OutOfBand ")?,
     }
     let level = method.security_level();
     match level {
-        SecurityLevel::NoEncryption => io::write_all(1, b"NoEncryption"),
-        SecurityLevel::Encrypted => io::write_all(1, b"Encrypted"),
-        SecurityLevel::EncryptedAuthenticated => io::write_all(1, b"EncryptedAuthenticated"),
-    };
+        SecurityLevel::NoEncryption => rt.write_all(b"NoEncryption"),
+        SecurityLevel::Encrypted => rt.write_all(b"Encrypted"),
+        SecurityLevel::EncryptedAuthenticated => rt.write_all(b"EncryptedAuthenticated"),
+    }
 }
 
-fn write_roles(central: PassKeyEntryAction, peripheral: PassKeyEntryAction) {
+fn write_roles(
+    rt: &impl Print,
+    central: PassKeyEntryAction,
+    peripheral: PassKeyEntryAction,
+) -> io::Result<()> {
     match central {
         PassKeyEntryAction::Display => match peripheral {
-            PassKeyEntryAction::Display => io::write_all(1, b"BothDisplay "),
-            PassKeyEntryAction::Input => io::write_all(1, b"CentralDisplays "),
+            PassKeyEntryAction::Display => rt.write_all(b"BothDisplay "),
+            PassKeyEntryAction::Input => rt.write_all(b"CentralDisplays "),
         },
         PassKeyEntryAction::Input => match peripheral {
-            PassKeyEntryAction::Display => io::write_all(1, b"PeripheralDisplays "),
-            PassKeyEntryAction::Input => io::write_all(1, b"BothInput "),
+            PassKeyEntryAction::Display => rt.write_all(b"PeripheralDisplays "),
+            PassKeyEntryAction::Input => rt.write_all(b"BothInput "),
         },
-    };
+    }
 }

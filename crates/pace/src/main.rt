@@ -1,30 +1,32 @@
 // Pairs again and again, once for each octet on standard input, sixteen times at most: what scripts/cost measures. The method is passkey entry,
 // the passkey is shown here, and what is supplied is zeros. A pairing is 46 calls of the responder; no question is asked, no line written.
+#![tactic(auto)]
+
 use address::{Address, AddressKind};
 use features::{IoCapabilities, UseOutOfBand};
 use machine::Phase;
 use method::SecurityLevel;
 use protocol::{Bond, Configured, Event, MaybeBond, OobData, Setup, Supplied};
 use responder::Responder;
+use std::io;
+use std::io::Read;
 
-fn main() {
+fn main(rt: HostRuntime) -> io::Result<()> {
     let mut octets = [0u8; 16];
-    let wanted = io::count(libc::read(0, &mut octets), &octets);
+    let wanted = rt.reader().read(&mut octets).unwrap_or(0);
     if pairings(wanted as u32, event(octets[0])) {
-        io::write_all(1, b"done\n");
+        rt.write_all(b"done\n")
     } else {
-        io::write_all(1, b"failed\n");
+        rt.write_all(b"failed\n")
     }
 }
 
 // Whether so many pairings, one after the other, all succeed.
 fn pairings(wanted: u32, came: Event) -> bool {
-    let mut made: u32 = 0;
-    while made < wanted {
+    for made in 0..wanted {
         if !pairs(made, came) {
             return false;
         }
-        made += 1;
     }
     true
 }
@@ -48,10 +50,8 @@ fn opened(fresh: Responder, out: &mut [u8]) -> Responder {
 // The responder after the twenty rounds of a passkey.
 fn rounds(keyed: Responder, out: &mut [u8]) -> Responder {
     let mut responder = keyed;
-    let mut round: u32 = 0;
-    while round < 20 {
+    for _ in 0..20 {
         responder = exchanged(responder, out);
-        round += 1;
     }
     responder
 }

@@ -1,4 +1,6 @@
 // Replays a fixed list of calls: `stdin` has records of the Rust crate's runs and `stdout` the lines that its answers make (oracle/sample).
-fn main() {
-    walk::walk();
+#![tactic(auto)]
+
+fn main(rt: HostRuntime) {
+    walk::walk(&rt);
 }

@@ -7,7 +7,7 @@ use responder::Stepped;
 use wrapper::{Begun, Start};
 
 // Why the walk stops.
-#[derive(Drop)]
+#[derive(Clone, Copy)]
 pub(crate) enum Fault {
     Incomplete,
     UnknownKind,

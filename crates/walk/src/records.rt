@@ -1,4 +1,6 @@
 // The walk through the input: one record, one call, one line.
+ghost use Rattle.std.specs.Prelude.{◌≤◌, length};
+
 use crate::lines;
 use crate::lines::Fault;
 use crate::standing::seen;
@@ -6,6 +8,7 @@ use crate::text::{Line, least};
 use calls::{Call, EventCall, Kind, ReadAnswer, SetupCall, StartKind};
 use protocol::{Answer, Setup};
 use responder::{Responder, Stepped};
+use std::io;
 use wrapper::{Begun, Start};
 
 // Where a command begins in the payload of its record.
@@ -13,7 +16,7 @@ const COMMAND: usize = 156;
 
 // Where the walk stands: which record is next and where it begins, the machine, and the answer of the latest call. A start that began
 // counts as taken.
-#[derive(Drop)]
+#[derive(Clone, Copy)]
 struct Walk {
     going: bool,
     begun: bool,
@@ -24,7 +27,7 @@ struct Walk {
 }
 
 // What is next in the input: a call to be made, nothing, or what stops the walk.
-#[derive(Drop)]
+#[derive(Clone, Copy)]
 enum Next {
     Setup,
     Command,
@@ -36,7 +39,7 @@ enum Next {
 }
 
 // What was read, and the length of its payload.
-#[derive(Drop)]
+#[derive(Clone, Copy)]
 struct Read {
     next: Next,
     size: usize,
@@ -44,23 +47,30 @@ struct Read {
 
 impl Walk {
     // Writes a record's line. The same walk behind the record, whose payload has `size` octets: it goes on if the line was written.
-    fn next(self, line: Line, size: usize, responder: Responder, answer: Answer) -> Walk {
-        let header = std::num::wrapping_add_u64(self.offset, 4);
+    fn next(
+        self,
+        rt: &impl Print,
+        line: Line,
+        size: usize,
+        responder: Responder,
+        answer: Answer,
+    ) -> Walk {
+        let header = self.offset.wrapping_add(4);
         Walk {
-            going: write(line),
+            going: write(rt, line),
             begun: true,
-            number: std::num::wrapping_add_u64(self.number, 1),
-            offset: std::num::wrapping_add_u64(header, size as u64),
+            number: self.number.wrapping_add(1),
+            offset: header.wrapping_add(size as u64),
             responder,
             answer,
         }
     }
 
     // The walk behind a command or an event.
-    fn stepped(self, line: Line, size: usize, stepped: Stepped) -> Walk {
+    fn stepped(self, rt: &impl Print, line: Line, size: usize, stepped: Stepped) -> Walk {
         let responder = stepped.responder;
         let answer = stepped.answer;
-        self.next(line, size, responder, answer)
+        self.next(rt, line, size, responder, answer)
     }
 
     fn ended(self) -> Walk {
@@ -70,19 +80,21 @@ impl Walk {
     }
 
     // The record can't be read: its line says why and where.
-    fn stopped(self, why: Fault) -> Walk {
-        write(lines::stop(self.number, why, self.offset));
+    fn stopped(self, rt: &impl Print, why: Fault) -> Walk {
+        write(rt, lines::stop(self.number, why, self.offset));
         self.ended()
     }
 }
 
-// A proved loop has to end, and nothing says that the input does: so turns are counted down from a number that no run uses up.
-pub(crate) fn replay(payload: &mut [u8]) {
+// A proved loop has to end, and nothing says that the input does: so turns are counted up to a number that no run reaches.
+pub(crate) fn replay(rt: &(impl Input + Print), payload: &mut [u8]) {
+    let mut input = rt.reader();
     let mut walk = start();
-    let mut turns = u64::MAX;
-    while turns > 0 && walk.going {
-        walk = turn(walk, payload);
-        turns -= 1;
+    for _ in 0..u64::MAX {
+        if !walk.going {
+            break;
+        }
+        walk = turn(rt, &mut input, walk, payload);
     }
 }
 
@@ -107,17 +119,17 @@ fn no_setup() -> Setup {
     setup
 }
 
-fn turn(walk: Walk, payload: &mut [u8]) -> Walk {
-    let read = record(walk.begun, payload);
+fn turn(rt: &impl Print, input: &mut impl io::Read, walk: Walk, payload: &mut [u8]) -> Walk {
+    let read = record(input, walk.begun, payload);
     let next = read.next;
     let n = least(read.size, payload.len());
-    take(walk, next, &payload[0..n])
+    take(rt, walk, next, &payload[0..n])
 }
 
 // One record: its header, and then its payload, as long as the header says. Nothing of it is tested before it is read whole.
-fn record(begun: bool, payload: &mut [u8]) -> Read {
+fn record(input: &mut impl io::Read, begun: bool, payload: &mut [u8]) -> Read {
     let mut header = [0u8; 4];
-    let got = io::read_full(0, &mut header);
+    let got = read_full(input, &mut header);
     if got < 4 {
         return Read {
             next: cut(got),
@@ -127,7 +139,7 @@ fn record(begun: bool, payload: &mut [u8]) -> Read {
     let head = calls::read_header(&header);
     let kind = head.kind;
     let size = least(head.length, payload.len());
-    if io::read_full(0, &mut payload[0..size]) < size {
+    if read_full(input, &mut payload[0..size]) < size {
         return Read {
             next: Next::Stop(Fault::Incomplete),
             size,
@@ -137,6 +149,21 @@ fn record(begun: bool, payload: &mut [u8]) -> Read {
         next: called(kind, begun),
         size,
     }
+}
+
+// Reads until the slice is full, the input ends or a read fails, and answers how many octets were read.
+fn read_full(input: &mut impl io::Read, octets: &mut [u8]) -> usize
+    ensures { result ≤ length octets.new }
+{
+    let mut done = 0;
+    while done < octets.len() {
+        let n = input.read(&mut octets[done..]).unwrap_or(0);
+        if n == 0 {
+            break;
+        }
+        done += n;
+    }
+    done
 }
 
 // The input ends before a header, or within it.
@@ -168,47 +195,47 @@ fn later(next: Next, begun: bool) -> Next {
     }
 }
 
-fn take(walk: Walk, next: Next, payload: &[u8]) -> Walk {
+fn take(rt: &impl Print, walk: Walk, next: Next, payload: &[u8]) -> Walk {
     match next {
-        Next::Setup => setup(walk, payload),
-        Next::Command => command(walk, payload),
-        Next::Event => event(walk, payload),
-        Next::Timeout => timeout(walk, payload),
-        Next::Answer => answer(walk, payload),
+        Next::Setup => setup(rt, walk, payload),
+        Next::Command => command(rt, walk, payload),
+        Next::Event => event(rt, walk, payload),
+        Next::Timeout => timeout(rt, walk, payload),
+        Next::Answer => answer(rt, walk, payload),
         Next::End => walk.ended(),
-        Next::Stop(why) => walk.stopped(why),
+        Next::Stop(why) => walk.stopped(rt, why),
     }
 }
 
-fn setup(walk: Walk, payload: &[u8]) -> Walk {
+fn setup(rt: &impl Print, walk: Walk, payload: &[u8]) -> Walk {
     let read = calls::read_setup(payload);
     if read.fits {
         let call = read.call;
-        return take_setup(walk, call, payload.len());
+        return take_setup(rt, walk, call, payload.len());
     }
-    walk.stopped(Fault::Misfit)
+    walk.stopped(rt, Fault::Misfit)
 }
 
-fn take_setup(walk: Walk, call: SetupCall, size: usize) -> Walk {
+fn take_setup(rt: &impl Print, walk: Walk, call: SetupCall, size: usize) -> Walk {
     let mut outbox = [0u8; 512];
     let begun = begin(call, &mut outbox);
     let responder = begun.responder;
     let answer = begun.answer;
     let line = lines::setup(walk.number, begun, outbox);
-    walk.next(line, size, responder, start_answer(answer))
+    walk.next(rt, line, size, responder, start_answer(answer))
 }
 
-fn command(walk: Walk, payload: &[u8]) -> Walk {
+fn command(rt: &impl Print, walk: Walk, payload: &[u8]) -> Walk {
     let read = calls::read_command(payload);
     if read.fits {
         let call = read.call;
         let at = least(COMMAND, payload.len());
-        return take_command(walk, call, &payload[at..], payload.len());
+        return take_command(rt, walk, call, &payload[at..], payload.len());
     }
-    walk.stopped(Fault::Misfit)
+    walk.stopped(rt, Fault::Misfit)
 }
 
-fn take_command(walk: Walk, call: Call, cmd: &[u8], size: usize) -> Walk {
+fn take_command(rt: &impl Print, walk: Walk, call: Call, cmd: &[u8], size: usize) -> Walk {
     let responder = walk.responder;
     let supplied = call.supplied;
     let given = call.given;
@@ -217,19 +244,19 @@ fn take_command(walk: Walk, call: Call, cmd: &[u8], size: usize) -> Walk {
     let room = least(call.outbox, 512);
     let stepped = responder.command(cmd, supplied, &mut outbox[0..room]);
     let line = lines::command(walk.number, stepped, outbox, asked);
-    walk.stepped(line, size, stepped)
+    walk.stepped(rt, line, size, stepped)
 }
 
-fn event(walk: Walk, payload: &[u8]) -> Walk {
+fn event(rt: &impl Print, walk: Walk, payload: &[u8]) -> Walk {
     let read = calls::read_event(payload);
     if read.fits {
         let call = read.call;
-        return take_event(walk, call, payload.len());
+        return take_event(rt, walk, call, payload.len());
     }
-    walk.stopped(Fault::Misfit)
+    walk.stopped(rt, Fault::Misfit)
 }
 
-fn take_event(walk: Walk, call: EventCall, size: usize) -> Walk {
+fn take_event(rt: &impl Print, walk: Walk, call: EventCall, size: usize) -> Walk {
     let responder = walk.responder;
     let came = call.came;
     let values = call.values;
@@ -241,37 +268,37 @@ fn take_event(walk: Walk, call: EventCall, size: usize) -> Walk {
     let room = least(with.outbox, 512);
     let stepped = responder.event(came, values, supplied, &mut outbox[0..room]);
     let line = lines::event(walk.number, stepped, outbox, asked);
-    walk.stepped(line, size, stepped)
+    walk.stepped(rt, line, size, stepped)
 }
 
-fn timeout(walk: Walk, payload: &[u8]) -> Walk {
+fn timeout(rt: &impl Print, walk: Walk, payload: &[u8]) -> Walk {
     if payload.len() == 0 {
-        return take_timeout(walk);
+        return take_timeout(rt, walk);
     }
-    walk.stopped(Fault::Misfit)
+    walk.stopped(rt, Fault::Misfit)
 }
 
-fn take_timeout(walk: Walk) -> Walk {
+fn take_timeout(rt: &impl Print, walk: Walk) -> Walk {
     let responder = walk.responder;
     let answer = walk.answer;
     let after = responder.mark_timeout();
     let line = lines::timeout(walk.number, seen(after));
-    walk.next(line, 0, after, answer)
+    walk.next(rt, line, 0, after, answer)
 }
 
-fn answer(walk: Walk, payload: &[u8]) -> Walk {
+fn answer(rt: &impl Print, walk: Walk, payload: &[u8]) -> Walk {
     let read = calls::read_answer(payload);
     match read {
-        ReadAnswer::Fits(shown) => take_answer(walk, shown, payload.len()),
-        ReadAnswer::Misfit => walk.stopped(Fault::Misfit),
+        ReadAnswer::Fits(shown) => take_answer(rt, walk, shown, payload.len()),
+        ReadAnswer::Misfit => walk.stopped(rt, Fault::Misfit),
     }
 }
 
-fn take_answer(walk: Walk, shown: Answer, size: usize) -> Walk {
+fn take_answer(rt: &impl Print, walk: Walk, shown: Answer, size: usize) -> Walk {
     let responder = walk.responder;
     let given = walk.answer;
     let line = lines::answer(walk.number, same(shown, given), seen(responder));
-    walk.next(line, size, responder, given)
+    walk.next(rt, line, size, responder, given)
 }
 
 // Begins a pairing. A plain start has no outbox.
@@ -313,13 +340,13 @@ fn same(a: Answer, b: Answer) -> bool {
 }
 
 // Writes the line, and answers whether that went well.
-fn write(line: Line) -> bool {
+fn write(rt: &impl Print, line: Line) -> bool {
     let octets = line.octets;
-    write_first(&octets, line.length)
+    write_first(rt, &octets, line.length)
 }
 
 // Writes the first n octets.
-fn write_first(octets: &[u8], n: usize) -> bool {
+fn write_first(rt: &impl Print, octets: &[u8], n: usize) -> bool {
     let end = least(n, octets.len());
-    io::write_all(1, &octets[0..end])
+    rt.write_all(&octets[0..end]).is_ok()
 }

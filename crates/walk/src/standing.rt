@@ -8,7 +8,7 @@ use protocol::MaybeBond;
 use responder::Responder;
 
 // What a line shows of a machine.
-#[derive(Drop)]
+#[derive(Clone, Copy)]
 pub(crate) struct View {
     phase: Phase,
     method: PairingMethod,
@@ -18,7 +18,7 @@ pub(crate) struct View {
 }
 
 // What a phase shows beside its name.
-#[derive(Drop)]
+#[derive(Clone, Copy)]
 enum Shown {
     Nothing,
     Held(bool),

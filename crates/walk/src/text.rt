@@ -1,9 +1,9 @@
 // Text in a line. What doesn't fit isn't written; the longest line has fewer than 1,024 octets.
 ghost use Rattle.std.specs.Prelude.{◌≡◌, ◌<◌, ◌≤◌, min};
-ghost use Rattle.io.specs.Digits.{last_digits, hex_digit_ascii};
+ghost use Rattle.walk.specs.Digits.{last_digits, hex_digit_ascii};
 
 // A line as far as it is written. It goes by value: each function takes it and hands back a longer one.
-#[derive(Drop)]
+#[derive(Clone, Copy)]
 pub(crate) struct Line {
     pub(crate) octets: [u8; 1024],
     pub(crate) length: usize,
@@ -30,7 +30,7 @@ impl Line {
 
     // A name, without the spaces behind it.
     pub(crate) fn name(self, padded: [u8; 36]) -> Line {
-        let n = bytes::scan::find(&padded, 0, 36, b' ');
+        let n = padded.iter().position(|octet| *octet == b' ').unwrap_or(36);
         self.word(&padded[0..n])
     }
 
@@ -50,9 +50,8 @@ impl Line {
     }
 
     pub(crate) fn decimal(self, number: u64) -> Line {
-        let mut text = [0u8; 20];
-        let n = io::decimal(number, &mut text);
-        self.word(&text[..n])
+        let mut text = itoa::Buffer::new();
+        self.word(text.format(number).as_bytes())
     }
 
     // A colon, and the number.
@@ -71,10 +70,8 @@ fn put(out: &mut [u8], at: usize, octets: &[u8]) -> usize {
 
 fn put_hex(out: &mut [u8], at: usize, octets: &[u8]) -> usize {
     let mut place = at;
-    let mut i = 0;
-    while i < octets.len() {
-        place = put(out, place, &two_digits(octets[i]));
-        i += 1;
+    for octet in octets {
+        place = put(out, place, &two_digits(*octet));
     }
     place
 }
