@@ -14,3 +14,5 @@ pub mod Ends
 pub mod Room
 pub mod Along
 pub mod Acceptable
+pub mod Samples
+pub mod Marks

@@ -8,3 +8,6 @@ pub mod Next
 pub mod Met
 pub mod Draws
 pub mod Ends
+pub mod Values
+pub mod Samples
+pub mod Marks
