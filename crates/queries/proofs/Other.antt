@@ -1,21 +1,12 @@
 -- What the last arm of a match takes: a phase in which the link isn't encrypted, or the pairing hasn't ended. Assumes nothing.
 use Rattle.protocol.specs.declared.Failure.{Failure}
-use Prim.Native.Nat.{ℕ}
 use mathlib.Core.Path.{◌≡◌, refl}
-use mathlib.Core.List.{List, [], ◌∷◌}
 use mathlib.Core.Bool.{false}
 use Rattle.machine.specs.declared.Phase.{Phase}
 use Rattle.machine.specs.declared.Phase.TheVariants as P
 use Rattle.machine.specs.Level.{encrypted}
 use Rattle.queries.specs.declared.PairingResult.TheVariants as R
 use Rattle.queries.specs.Result.{result_of}
-
--- the places, in the enum, of what each arm takes
-abbrev plain : List ℕ
-plain = 0 ∷ 1 ∷ 2 ∷ 3 ∷ 4 ∷ 5 ∷ 6 ∷ 7 ∷ 8 ∷ 9 ∷ 10 ∷ 14 ∷ []
-
-abbrev waiting : List ℕ
-waiting = 0 ∷ 1 ∷ 2 ∷ 3 ∷ 4 ∷ 5 ∷ 6 ∷ 7 ∷ 8 ∷ 9 ∷ 10 ∷ 11 ∷ 12 ∷ []
 
 pub plain_other : (p : Phase) → (p ≡ P.WaitingIdentitityInformation → ⊥) → (p ≡ P.WaitingIdentitityAddressInformation → ⊥) → (p ≡ P.Success → ⊥) → encrypted p ≡ false
 plain_other P.WaitingPairingRequest n1 n2 n3 = refl
