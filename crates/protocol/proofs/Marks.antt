@@ -1,8 +1,8 @@
--- Runs with timeout marks in them, of any role: without a mark they are runs of calls, what is finished takes nothing, and marks that raise no rank keep
--- the bound. Assumes nothing.
+-- Runs with timeout marks in them, of any role: without a mark they are runs of calls, a mark is a timeout and no input, what is finished takes nothing,
+-- and marks that raise no rank keep the bound. Assumes nothing.
 use Prim.Native.Nat.{ℕ, ◌+◌, ◌≤◌}
-use mathlib.Core.Path.{◌≡◌, refl, sym, ap, subst}
-use mathlib.Core.List.{List, [], ◌∷◌, map}
+use mathlib.Core.Path.{◌≡◌, refl, sym, ap, subst, ◌∙◌}
+use mathlib.Core.List.{List, [], ◌∷◌, ◌++◌, map}
 use mathlib.Core.Bool.{Bool, true, false}
 use lib.ListN.{length}
 use native.Mathlib.Omega.{arith}
@@ -22,6 +22,34 @@ module _ {S : Type 0} (role : Role S) where
   unfolding inputs history
   inputs_calls [] m = refl
   inputs_calls (c ∷ cs) m = ap (λ h. keep (is_taken (step role m c).answer) c h) (inputs_calls cs (after role m c))
+
+  -- a mark is a timeout, and no input
+  pub ran_mark : (m : S) → ran role m (mark ∷ []) ≡ timed_out role m
+  unfolding ran
+  ran_mark m = refl
+
+  pub inputs_mark : (m : S) → inputs role m (mark ∷ []) ≡ []
+  unfolding inputs
+  inputs_mark m = refl
+
+  -- deeds after deeds begin where those left the machine
+  pub ran_after : (ds es : List Deed) (m : S) → ran role m (ds ++ es) ≡ ran role (ran role m ds) es
+  unfolding ran
+  ran_after [] es m = refl
+  ran_after (call c ∷ ds) es m = ran_after ds es (after role m c)
+  ran_after (mark ∷ ds) es m = ran_after ds es (timed_out role m)
+
+  pub inputs_after : (ds es : List Deed) (m : S) → inputs role m (ds ++ es) ≡ inputs role m ds ++ inputs role (ran role m ds) es
+  unfolding ran inputs
+  inputs_after [] es m = refl
+  inputs_after (call c ∷ ds) es m =
+      ap (λ h. keep (is_taken (step role m c).answer) c h) (inputs_after ds es (after role m c))
+      ∙ kept (is_taken (step role m c).answer) (inputs role (after role m c) ds) (inputs role (ran role (after role m c) ds) es)
+    where
+      kept : (b : Bool) (h i : List Call) → keep b c (h ++ i) ≡ keep b c h ++ i
+      kept true h i = refl
+      kept false h i = refl
+  inputs_after (mark ∷ ds) es m = inputs_after ds es (timed_out role m)
 
   -- what is finished stays as it is and takes nothing, whatever is done to it
   pub idle : (ds : List Deed) (m : S) → role.finished m ≡ true → (ran role m ds ≡ m) × (inputs role m ds ≡ [])
