@@ -3,71 +3,59 @@
 #![tactic(auto)]
 
 ghost use Rattle.std.specs.Prelude.{◌≡◌};
-ghost use Rattle.address.specs.Identity.{kind_number, received_of, none_of, decode_of};
+ghost use Rattle.address.specs.Identity.{kind_number, kind_from, decode_of};
 
-#[derive(Clone, Copy)]
+#[derive(Clone, Copy, Debug, PartialEq, Eq)]
 pub enum AddressKind {
     Public,
     Random,
 }
 
-#[derive(Clone, Copy)]
+#[derive(Clone, Copy, Debug, PartialEq, Eq)]
 pub struct Address {
     pub kind: AddressKind,
     pub octets: [u8; 6],
 }
 
-// A payload's address. Where it has none, `valid` is false and the address is public and all zero.
-#[derive(Clone, Copy)]
-pub struct Received {
-    pub valid: bool,
-    pub address: Address,
-}
+// A type octet that no kind of address has.
+#[derive(Clone, Copy, Debug, PartialEq, Eq)]
+pub struct UnknownKind(pub u8);
 
 // The address in a payload: a type octet, 0 or 1, and six octets, least significant first. What comes behind is ignored.
-pub fn decode(payload: &[u8]) -> Received
+pub fn decode(payload: &[u8]) -> Option<Address>
     ensures { result ≡ decode_of payload.now }
 {
     if payload.len() < 7 {
-        return none();
+        return None;
     }
-    let number = payload[0];
-    if number == 0 {
-        return valid(AddressKind::Public, octets::reversed6(&payload[1..7]));
-    }
-    if number == 1 {
-        return valid(AddressKind::Random, octets::reversed6(&payload[1..7]));
-    }
-    none()
+    Some(Address {
+        kind: AddressKind::try_from(payload[0]).ok()?,
+        octets: octets::reversed(&payload[1..7]),
+    })
 }
 
-// The type octet of a kind of address.
-pub fn kind_number(kind: AddressKind) -> u8
-    ensures { result ≡ kind_number kind }
-{
-    match kind {
-        AddressKind::Public => 0,
-        AddressKind::Random => 1,
-    }
-}
+// The type octet of a kind of address, and back.
+impl From<AddressKind> for u8 {
+    ghost from_gives = { λ kind number. number ≡ kind_number kind };
 
-fn valid(kind: AddressKind, octets: [u8; 6]) -> Received
-    ensures { result ≡ received_of kind octets }
-{
-    Received {
-        valid: true,
-        address: Address { kind, octets },
+    fn from(kind: AddressKind) -> u8 {
+        match kind {
+            AddressKind::Public => 0,
+            AddressKind::Random => 1,
+        }
     }
 }
 
-fn none() -> Received
-    ensures { result ≡ none_of }
-{
-    Received {
-        valid: false,
-        address: Address {
-            kind: AddressKind::Public,
-            octets: [0u8; 6],
-        },
+impl TryFrom<u8> for AddressKind {
+    type Error = UnknownKind;
+
+    ghost try_from_gives = { λ number kind. kind ≡ kind_from number };
+
+    fn try_from(number: u8) -> Result<Self, UnknownKind> {
+        match number {
+            0 => Ok(AddressKind::Public),
+            1 => Ok(AddressKind::Random),
+            _ => Err(UnknownKind(number)),
+        }
     }
 }

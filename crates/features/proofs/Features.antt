@@ -12,26 +12,27 @@ use Rattle.features.specs.declared.IoCapabilities.TheVariants.{DisplayOnly, Disp
 use Rattle.features.specs.declared.UseOutOfBand.{UseOutOfBand}
 use Rattle.features.specs.declared.UseOutOfBand.TheVariants.{NotPresent, Present}
 use Rattle.features.specs.declared.PairingFeatures.{PairingFeatures}
-use Rattle.features.specs.declared.Decoded.{Decoded}
-use Rattle.features.specs.declared.Decoded.TheVariants.{Features, Refused}
-use Rattle.features.specs.Features.{io_number, io_of, oob_number, oob_of, encode_of, features_of, decode_of}
+use Rattle.std.specs.Prelude.{Option, Some, None, Ok, Err}
+use Rattle.std.specs.Result.{result_ok}
+use Rattle.std.proofs.lemmas.Bool.{leb-false}
+use Rattle.features.specs.Features.{reserved, io_number, io_from, io_of, oob_number, oob_from, oob_of, encode_of, features_of, decode_of}
 
 -- What a payload decodes to, by the tests in their order
 module _ (l : List ℕ) where
-  pub wrong_length : (length l ≡ 6 → ⊥) → Refused ≡ decode_of l
+  pub wrong_length : (length l ≡ 6 → ⊥) → None ≡ decode_of l
   unfolding decode_of
   wrong_length h = rw (ne_eqb (length l) 6 h)
 
   module _ (n : length l ≡ 6) where
-    pub io_above : 4 < get_or l 0 0 → Refused ≡ decode_of l
+    pub io_above : 4 < get_or l 0 0 → None ≡ decode_of l
     unfolding decode_of
     io_above h = rw (eq-eqb (length l) 6 n, lt-leb (get_or l 0 0) 4 h)
 
-    pub oob_above : get_or l 0 0 ≤ 4 → 1 < get_or l 1 0 → Refused ≡ decode_of l
+    pub oob_above : get_or l 0 0 ≤ 4 → 1 < get_or l 1 0 → None ≡ decode_of l
     unfolding decode_of
     oob_above h g = rw (eq-eqb (length l) 6 n, le-leb (get_or l 0 0) 4 h, lt-leb (get_or l 1 0) 1 g)
 
-    pub decodes : get_or l 0 0 ≤ 4 → get_or l 1 0 ≤ 1 → Features (features_of l) ≡ decode_of l
+    pub decodes : get_or l 0 0 ≤ 4 → get_or l 1 0 ≤ 1 → Some (features_of l) ≡ decode_of l
     unfolding decode_of
     decodes h g = rw (eq-eqb (length l) 6 n, le-leb (get_or l 0 0) 4 h, le-leb (get_or l 1 0) 1 g)
 
@@ -71,14 +72,31 @@ oob_number_lem zero h = refl
 oob_number_lem (suc zero) h = refl
 oob_number_lem (suc (suc n)) h = absurd (omega arith)
 
+-- A number above the last one is reserved
+pub io_reserved : (n : ℕ) → 4 < n → Err (reserved n) ≡ io_from n
+io_reserved n h = rw (lt-leb n 4 h)
+
+pub oob_reserved : (n : ℕ) → 1 < n → Err (reserved n) ≡ oob_from n
+oob_reserved n h = rw (lt-leb n 1 h)
+
+-- A number that stands for something passed its test, and no other one did
+module _ {A E : Type 0} (x : A) (e : E) where
+  pub refused : (b : Bool) → result_ok (cond b (Ok x) (Err e)) ≡ None → b ≡ false
+  refused true h = absurd (let z : ◌≡◌ {A = ℕ} 0 1 = cc in omega arith)
+  refused false h = refl
+
+  pub taken : (b : Bool) {y : A} → result_ok (cond b (Ok x) (Err e)) ≡ Some y → (b ≡ true) × (y ≡ x)
+  taken true h = (refl, cc)
+  taken false {y} h = absurd (let z : ◌≡◌ {A = ℕ} 0 1 = cc in omega arith)
+
 -- What encodes decodes to the same features
-pub decode_encode : (f : PairingFeatures) → decode_of (encode_of f) ≡ Features f
+pub decode_encode : (f : PairingFeatures) → decode_of (encode_of f) ≡ Some f
 decode_encode f =
     sym (decodes (encode_of f) refl (io_small f.io) (oob_small f.oob))
     ∙ rw (io_back f.io, oob_back f.oob)
 
 -- What decodes passed every test, and encodes to the same octets
-passed : (b : Bool) (o : Decoded) (f : PairingFeatures) → cond b o Refused ≡ Features f → (b ≡ true) × (o ≡ Features f)
+passed : (b : Bool) (o : Option PairingFeatures) (f : PairingFeatures) → cond b o None ≡ Some f → (b ≡ true) × (o ≡ Some f)
 passed true o f h = (refl, h)
 passed false o f h = absurd (let z : ◌≡◌ {A = ℕ} 0 1 = cc in omega arith)
 
@@ -88,7 +106,7 @@ pub record Accepted (l : List ℕ) (f : PairingFeatures) : Type 0 where
   pub oob : get_or l 1 0 ≤ 1
   pub says : features_of l ≡ f
 
-pub accepted : (l : List ℕ) (f : PairingFeatures) → decode_of l ≡ Features f → Accepted l f
+pub accepted : (l : List ℕ) (f : PairingFeatures) → decode_of l ≡ Some f → Accepted l f
 unfolding decode_of
 accepted l f h =
     let a = passed (eqb (length l) 6) _ f h in
@@ -106,7 +124,7 @@ six (a ∷ b ∷ c ∷ d ∷ []) h = absurd (omega arith)
 six (a ∷ b ∷ c ∷ d ∷ e ∷ []) h = absurd (omega arith)
 six (a ∷ b ∷ c ∷ d ∷ e ∷ g ∷ k ∷ l) h = absurd (omega arith)
 
-pub encode_decode : (l : List ℕ) (f : PairingFeatures) → decode_of l ≡ Features f → encode_of f ≡ l
+pub encode_decode : (l : List ℕ) (f : PairingFeatures) → decode_of l ≡ Some f → encode_of f ≡ l
 encode_decode l f h =
     let a = accepted l f h in
     rw (← a.says, io_number_lem (get_or l 0 0) a.io, oob_number_lem (get_or l 1 0) a.oob) (sym (six l a.size))

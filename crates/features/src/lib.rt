@@ -3,10 +3,10 @@
 #![tactic(auto)]
 
 ghost use Rattle.std.specs.Prelude.{◌≡◌};
-ghost use Rattle.features.specs.Features.{io_number, io_of, oob_number, oob_of, encode_of, decode_of, io_cap_of};
+ghost use Rattle.features.specs.Features.{io_number, io_from, io_of, oob_number, oob_from, oob_of, encode_of, decode_of, io_cap_of};
 ghost use Rattle.features.specs.Bits.{bonding_bits, mitm_bit, secure_connections_bit, identity_bit, our_auth_req};
 
-#[derive(Clone, Copy)]
+#[derive(Clone, Copy, Debug, PartialEq, Eq)]
 pub enum IoCapabilities {
     DisplayOnly,
     DisplayYesNo,
@@ -15,7 +15,7 @@ pub enum IoCapabilities {
     KeyboardDisplay,
 }
 
-#[derive(Clone, Copy)]
+#[derive(Clone, Copy, Debug, PartialEq, Eq)]
 pub enum UseOutOfBand {
     NotPresent,
     Present,
@@ -32,31 +32,20 @@ pub struct PairingFeatures {
     pub responder: u8,
 }
 
-// What a payload says: features, or nothing that Part H allows.
-#[derive(Clone, Copy)]
-pub enum Decoded {
-    Features(PairingFeatures),
-    Refused,
-}
+// A number that Part H gives no meaning.
+#[derive(Clone, Copy, Debug, PartialEq, Eq)]
+pub struct Reserved(pub u8);
 
-// The features in a payload. Refused: another length than 6, IO above 4, OOB above 1. Every other payload decodes.
-pub fn decode(payload: &[u8]) -> Decoded
+// The features in a payload. None: another length than 6, IO above 4, OOB above 1. Every other payload decodes.
+pub fn decode(payload: &[u8]) -> Option<PairingFeatures>
     ensures { result ≡ decode_of payload.now }
 {
     if payload.len() != 6 {
-        return Decoded::Refused;
+        return None;
     }
-    let io = payload[0];
-    let oob = payload[1];
-    if 4 < io {
-        return Decoded::Refused;
-    }
-    if 1 < oob {
-        return Decoded::Refused;
-    }
-    Decoded::Features(PairingFeatures {
-        io: io_of(io),
-        oob: oob_of(oob),
+    Some(PairingFeatures {
+        io: IoCapabilities::try_from(payload[0]).ok()?,
+        oob: UseOutOfBand::try_from(payload[1]).ok()?,
         authreq: payload[2],
         keysize: payload[3],
         initiator: payload[4],
@@ -69,11 +58,9 @@ impl PairingFeatures {
     pub fn encode(self) -> [u8; 6]
         ensures { result ≡ encode_of self }
     {
-        let io = self.io;
-        let oob = self.oob;
         [
-            io_number(io),
-            oob_number(oob),
+            u8::from(self.io),
+            u8::from(self.oob),
             self.authreq,
             self.keysize,
             self.initiator,
@@ -85,9 +72,7 @@ impl PairingFeatures {
     pub fn io_cap(self) -> [u8; 3]
         ensures { result ≡ io_cap_of self }
     {
-        let io = self.io;
-        let oob = self.oob;
-        [self.authreq, oob_number(oob), io_number(io)]
+        [self.authreq, u8::from(self.oob), u8::from(self.io)]
     }
 
     // Whether AuthReq asks bonding: bits 0 and 1 are 01.
@@ -132,51 +117,73 @@ pub fn auth_req(bonding: bool, mitm: bool) -> u8
     }
 }
 
-// IO capabilities and the OOB data flag as numbers (Part H 3.5.1), and back. Any number from 4 on is KeyboardDisplay, any but 0 Present.
-pub fn io_number(io: IoCapabilities) -> u8
-    ensures { result ≡ io_number io }
-{
-    match io {
-        IoCapabilities::DisplayOnly => 0,
-        IoCapabilities::DisplayYesNo => 1,
-        IoCapabilities::KeyboardOnly => 2,
-        IoCapabilities::NoInputNoOutput => 3,
-        IoCapabilities::KeyboardDisplay => 4,
+// IO capabilities as numbers (Part H 3.5.1), and back.
+impl From<IoCapabilities> for u8 {
+    ghost from_gives = { λ io number. number ≡ io_number io };
+
+    fn from(io: IoCapabilities) -> u8 {
+        match io {
+            IoCapabilities::DisplayOnly => 0,
+            IoCapabilities::DisplayYesNo => 1,
+            IoCapabilities::KeyboardOnly => 2,
+            IoCapabilities::NoInputNoOutput => 3,
+            IoCapabilities::KeyboardDisplay => 4,
+        }
     }
 }
 
+impl TryFrom<u8> for IoCapabilities {
+    type Error = Reserved;
+
+    ghost try_from_gives = { λ io result. result ≡ io_from io };
+
+    fn try_from(io: u8) -> Result<Self, Reserved> {
+        match io {
+            0 => Ok(IoCapabilities::DisplayOnly),
+            1 => Ok(IoCapabilities::DisplayYesNo),
+            2 => Ok(IoCapabilities::KeyboardOnly),
+            3 => Ok(IoCapabilities::NoInputNoOutput),
+            4 => Ok(IoCapabilities::KeyboardDisplay),
+            _ => Err(Reserved(io)),
+        }
+    }
+}
+
+// The OOB data flag as a number (Part H 3.5.1), and back.
+impl From<UseOutOfBand> for u8 {
+    ghost from_gives = { λ oob number. number ≡ oob_number oob };
+
+    fn from(oob: UseOutOfBand) -> u8 {
+        match oob {
+            UseOutOfBand::NotPresent => 0,
+            UseOutOfBand::Present => 1,
+        }
+    }
+}
+
+impl TryFrom<u8> for UseOutOfBand {
+    type Error = Reserved;
+
+    ghost try_from_gives = { λ oob result. result ≡ oob_from oob };
+
+    fn try_from(oob: u8) -> Result<Self, Reserved> {
+        match oob {
+            0 => Ok(UseOutOfBand::NotPresent),
+            1 => Ok(UseOutOfBand::Present),
+            _ => Err(Reserved(oob)),
+        }
+    }
+}
+
+// The two for any number: reserved ones are KeyboardDisplay and Present.
 pub fn io_of(number: u8) -> IoCapabilities
     ensures { result ≡ io_of number }
 {
-    if number == 0 {
-        return IoCapabilities::DisplayOnly;
-    }
-    if number == 1 {
-        return IoCapabilities::DisplayYesNo;
-    }
-    if number == 2 {
-        return IoCapabilities::KeyboardOnly;
-    }
-    if number == 3 {
-        return IoCapabilities::NoInputNoOutput;
-    }
-    IoCapabilities::KeyboardDisplay
-}
-
-pub fn oob_number(oob: UseOutOfBand) -> u8
-    ensures { result ≡ oob_number oob }
-{
-    match oob {
-        UseOutOfBand::NotPresent => 0,
-        UseOutOfBand::Present => 1,
-    }
+    IoCapabilities::try_from(number).unwrap_or(IoCapabilities::KeyboardDisplay)
 }
 
 pub fn oob_of(octet: u8) -> UseOutOfBand
     ensures { result ≡ oob_of octet }
 {
-    if octet == 0 {
-        return UseOutOfBand::NotPresent;
-    }
-    UseOutOfBand::Present
+    UseOutOfBand::try_from(octet).unwrap_or(UseOutOfBand::Present)
 }

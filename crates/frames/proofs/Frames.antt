@@ -1,5 +1,5 @@
 -- Laws of frames: their lengths, and the two ends of every writer. Assumes nothing.
-use mathlib.Core.Path.{◌≡◌, ◌∙◌}
+use mathlib.Core.Path.{◌≡◌, refl, ◌∙◌}
 use mathlib.Core.List.{List, [], ◌∷◌, ◌++◌}
 use Prim.Native.Nat.{ℕ, ◌+◌, ◌-◌, ◌≤◌, ◌<◌}
 use native.Mathlib.Omega.{arith}
@@ -11,9 +11,10 @@ use Rattle.octets.proofs.Octets.{length_flip}
 use Rattle.octets.proofs.Write.{too_short, written, whole, then_part}
 use Rattle.frames.specs.Packets.{channel, head, frame}
 
--- one octet holds a size below 256
-pub small_head : (size code : ℕ) → size < 256 → size ∷ 0 ∷ 6 ∷ 0 ∷ code ∷ [] ≡ head channel size code
-small_head size code h = rw (mod-eq_of_lt h, div-eq_of_lt h)
+-- one octet holds a size below 256, so a header is these five octets over the start of an outbox
+pub head_over : (size code : ℕ) (out first : List ℕ) → size < 256 → first ≡ size ∷ 0 ∷ 6 ∷ 0 ∷ code ∷ [] → first ++ drop 5 out ≡ over (head channel size code) out
+unfolding over
+head_over size code out first h e = rw (e, mod-eq_of_lt h, div-eq_of_lt h) refl
 
 pub length_frame : (code : ℕ) (p : List ℕ) (n : ℕ) → length p ≡ n → length (frame channel code p) ≡ 5 + n
 unfolding frame

@@ -50,9 +50,8 @@ pub fn pairing_response(out: &mut [u8], features: PairingFeatures) -> usize
     if out.len() < 11 {
         return 0;
     }
-    let octets = features.encode();
     header(out, 7, PAIRING_RESPONSE);
-    let _n = octets::put(&mut out[5..], &octets);
+    octets::put(&mut out[5..], &features.encode());
     11
 }
 
@@ -84,10 +83,8 @@ pub fn identity_address(out: &mut [u8], address: Address) -> usize
     if out.len() < 12 {
         return 0;
     }
-    let kind = address.kind;
-    let octets = address.octets;
-    header_and(out, 8, IDENTITY_ADDRESS, address::kind_number(kind));
-    let _n = octets::put_reversed(&mut out[6..], &octets);
+    header_and(out, 8, IDENTITY_ADDRESS, u8::from(address.kind));
+    octets::put_reversed(&mut out[6..], &address.octets);
     12
 }
 
@@ -98,8 +95,8 @@ pub fn identity(out: &mut [u8], irk: [u8; 16], address: Address) -> usize
     if out.len() < 33 {
         return 0;
     }
-    let _first = identity_information(out, irk);
-    let _second = identity_address(&mut out[21..], address);
+    identity_information(out, irk);
+    identity_address(&mut out[21..], address);
     33
 }
 
@@ -122,8 +119,8 @@ pub fn public_key(out: &mut [u8], x: [u8; 32], y: [u8; 32]) -> usize
         return 0;
     }
     header(out, 65, PUBLIC_KEY);
-    let _x = octets::put_reversed(&mut out[5..], &x);
-    let _y = octets::put_reversed(&mut out[37..], &y);
+    octets::put_reversed(&mut out[5..], &x);
+    octets::put_reversed(&mut out[37..], &y);
     69
 }
 
@@ -134,8 +131,8 @@ pub fn public_key_confirm(out: &mut [u8], x: [u8; 32], y: [u8; 32], value: [u8; 
     if out.len() < 90 {
         return 0;
     }
-    let _key = public_key(out, x, y);
-    let _confirm = confirm(&mut out[69..], value);
+    public_key(out, x, y);
+    confirm(&mut out[69..], value);
     90
 }
 
@@ -154,7 +151,7 @@ fn value_frame(out: &mut [u8], code: u8, value: [u8; 16]) -> usize
         return 0;
     }
     header(out, 17, code);
-    let _n = octets::put_reversed(&mut out[5..], &value);
+    octets::put_reversed(&mut out[5..], &value);
     21
 }
 
@@ -172,9 +169,5 @@ fn header(out: &mut [u8], size: u8, code: u8)
     requires { 5 ≤ length out.old }
     ensures { out.new ≡ over (head channel size code) out.old }
 {
-    out[0] = size;
-    out[1] = 0;
-    out[2] = 6;
-    out[3] = 0;
-    out[4] = code;
+    out[..5].copy_from_slice(&[size, 0, 6, 0, code]);
 }

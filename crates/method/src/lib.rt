@@ -7,13 +7,13 @@ ghost use Rattle.method.specs.Method.{always, numeric_or, table, set, uses_oob, 
 
 use features::{IoCapabilities, PairingFeatures, UseOutOfBand};
 
-#[derive(Clone, Copy)]
+#[derive(Clone, Copy, Debug, PartialEq, Eq)]
 pub enum PassKeyEntryAction {
     Display,
     Input,
 }
 
-#[derive(Clone, Copy)]
+#[derive(Clone, Copy, Debug, PartialEq, Eq)]
 pub enum PairingMethod {
     JustWorks,
     NumericComparison,
@@ -25,13 +25,13 @@ pub enum PairingMethod {
 }
 
 // The two kinds of pairing that the tables tell apart.
-#[derive(Clone, Copy)]
+#[derive(Clone, Copy, Debug, PartialEq, Eq)]
 pub enum Kind {
     Legacy,
     SecureConnections,
 }
 
-#[derive(Clone, Copy)]
+#[derive(Clone, Copy, Debug, PartialEq, Eq)]
 pub enum SecurityLevel {
     NoEncryption,
     Encrypted,
@@ -61,10 +61,7 @@ impl PairingMethod {
         match self {
             PairingMethod::JustWorks => SecurityLevel::Encrypted,
             PairingMethod::NumericComparison => SecurityLevel::EncryptedAuthenticated,
-            PairingMethod::PassKeyEntry {
-                central: _,
-                peripheral: _,
-            } => SecurityLevel::EncryptedAuthenticated,
+            PairingMethod::PassKeyEntry { .. } => SecurityLevel::EncryptedAuthenticated,
             PairingMethod::OutOfBand => SecurityLevel::EncryptedAuthenticated,
         }
     }
@@ -91,18 +88,11 @@ pub fn choose_legacy_pairing_method(
 fn choose(kind: Kind, central: PairingFeatures, peripheral: PairingFeatures) -> PairingMethod
     ensures { result ≡ method_of kind central peripheral }
 {
-    let central_oob = central.oob;
-    let peripheral_oob = peripheral.oob;
-    let central_io = central.io;
-    let peripheral_io = peripheral.io;
-    if uses_oob(kind, central_oob, peripheral_oob) {
+    if uses_oob(kind, central.oob, peripheral.oob) {
         return PairingMethod::OutOfBand;
     }
-    if central.man_in_the_middle() {
-        return by_io(kind, central_io, peripheral_io);
-    }
-    if peripheral.man_in_the_middle() {
-        return by_io(kind, central_io, peripheral_io);
+    if central.man_in_the_middle() || peripheral.man_in_the_middle() {
+        return by_io(kind, central.io, peripheral.io);
     }
     PairingMethod::JustWorks
 }
@@ -110,20 +100,11 @@ fn choose(kind: Kind, central: PairingFeatures, peripheral: PairingFeatures) -> 
 fn uses_oob(kind: Kind, central: UseOutOfBand, peripheral: UseOutOfBand) -> bool
     ensures { result ≡ uses_oob kind (set central) (set peripheral) }
 {
-    let a = present(central);
-    let b = present(peripheral);
+    let a = matches!(central, UseOutOfBand::Present);
+    let b = matches!(peripheral, UseOutOfBand::Present);
     match kind {
         Kind::Legacy => a && b,
         Kind::SecureConnections => a || b,
-    }
-}
-
-fn present(oob: UseOutOfBand) -> bool
-    ensures { result ≡ set oob }
-{
-    match oob {
-        UseOutOfBand::NotPresent => false,
-        UseOutOfBand::Present => true,
     }
 }
 

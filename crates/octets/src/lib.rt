@@ -25,85 +25,42 @@ pub fn put_reversed(dst: &mut [u8], src: &[u8]) -> usize
     if dst.len() < n {
         return 0;
     }
-    let mut i = 0;
-    while i < n {
+    for i in 0..n {
         dst[i] = src[n - 1 - i];
-        i += 1;
     }
     n
 }
 
-// The 6 octets of src, last first; zeros where src has another length.
-pub fn reversed6(src: &[u8]) -> [u8; 6]
-    ensures { result ≡ turned 6 src.now }
+// The N octets of src, last first; zeros where src has another length.
+pub fn reversed<const N: usize>(src: &[u8]) -> [u8; N]
+    ensures { result ≡ turned N src.now }
 {
-    let mut r = [0u8; 6];
-    if src.len() != 6 {
-        return r;
+    let mut r = [0u8; N];
+    if src.len() == N {
+        put_reversed(&mut r, src);
     }
-    let _n = put_reversed(&mut r, src);
     r
 }
 
-// The 16 octets of src, last first; zeros where src has another length.
-pub fn reversed16(src: &[u8]) -> [u8; 16]
-    ensures { result ≡ turned 16 src.now }
-{
-    let mut r = [0u8; 16];
-    if src.len() != 16 {
-        return r;
-    }
-    let _n = put_reversed(&mut r, src);
-    r
-}
-
-// The 32 octets of src, last first; zeros where src has another length.
-pub fn reversed32(src: &[u8]) -> [u8; 32]
-    ensures { result ≡ turned 32 src.now }
-{
-    let mut r = [0u8; 32];
-    if src.len() != 32 {
-        return r;
-    }
-    let _n = put_reversed(&mut r, src);
-    r
-}
-
-// Whether a and b have the same 16 octets.
-pub fn equal16(a: [u8; 16], b: [u8; 16]) -> bool
-    ensures { result ≡ same a b }
-{
-    equal(&a, &b)
-}
-
-// Whether u and v have the same 32 octets.
-pub fn equal32(u: [u8; 32], v: [u8; 32]) -> bool
-    ensures { result ≡ same u v }
-{
-    equal(&u, &v)
-}
-
-// Whether all 16 octets are zero.
-pub fn all_zero16(a: [u8; 16]) -> bool
-    ensures { result ≡ all_zero a }
-{
-    equal16(a, [0u8; 16])
-}
-
-// Whether a and b have the same octets. Values are compared to the end: the number of turns doesn't tell where they differ.
-fn equal(a: &[u8], b: &[u8]) -> bool
+// Whether a and b have the same octets. They are compared to the end: the number of turns doesn't tell where they differ.
+pub fn equal(a: &[u8], b: &[u8]) -> bool
     ensures { result ≡ same a.now b.now }
 {
     if a.len() != b.len() {
         return false;
     }
     let mut alike = true;
-    let mut i = 0;
-    while i < a.len() {
+    for i in 0..a.len() {
         if a[i] != b[i] {
             alike = false;
         }
-        i += 1;
     }
     alike
+}
+
+// Whether all 16 octets are zero.
+pub fn all_zero16(a: [u8; 16]) -> bool
+    ensures { result ≡ all_zero a }
+{
+    equal(&a, &[0u8; 16])
 }

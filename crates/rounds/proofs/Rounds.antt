@@ -6,7 +6,7 @@ use Prim.Native.Nat.{ℕ, zero, suc, ◌+◌, ◌/◌, ◌%◌, ◌^◌, ◌<◌
 use native.Mathlib.Omega.{arith}
 use native.Mathlib.Nat.{mod-lt, div-eq_of_lt, zero-mod, lt_of_lt_of_le, pow-le-pow_right, pow-suc, pow-succ', div-one, div-div-eq-div-mul, div-lt_iff_lt-mul, div-add-mod'}
 use borrow.Author.Tests.{lt-ltb, le-ltb, leb-true}
-use Rattle.rounds.specs.declared.Following.TheVariants.{Round, DHKeyCheck}
+use Rattle.std.specs.Prelude.{Some, None}
 use Rattle.rounds.specs.Rounds.{bit, z_of, after_of, in_range}
 
 pub bit_below : (n r : ℕ) → bit n r < 2
@@ -30,10 +30,10 @@ pub z_top : (passkey r : ℕ) → z_of passkey r ≤ 129
 z_top passkey r = omega (arith, bit_below passkey r)
 
 -- which round follows
-pub after_round : (r : ℕ) → r < 19 → after_of r ≡ Round (r + 1)
+pub after_round : (r : ℕ) → r < 19 → after_of r ≡ Some (r + 1)
 after_round r h = rw (lt-ltb r 19 h)
 
-pub after_last : (r : ℕ) → 19 ≤ r → after_of r ≡ DHKeyCheck
+pub after_last : (r : ℕ) → 19 ≤ r → after_of r ≡ None
 after_last r h = rw (le-ltb r 19 h)
 
 -- bit r + 1 of a number is bit r of its half

@@ -1,7 +1,5 @@
 -- Passkey entry: the rounds, their bits, and the passkey as a secret.
-use Rattle.std.specs.Prelude.{ℕ, ◌+◌, ◌/◌, ◌%◌, ◌^◌, List, [], ◌∷◌, ◌++◌, Bool, cond, replicate, ltb, leb}
-use Rattle.rounds.specs.declared.Following.{Following}
-use Rattle.rounds.specs.declared.Following.TheVariants.{Round, DHKeyCheck}
+use Rattle.std.specs.Prelude.{ℕ, ◌+◌, ◌/◌, ◌%◌, ◌^◌, List, [], ◌∷◌, ◌++◌, Option, Some, None, Bool, cond, replicate, ltb, leb}
 
 -- bit r of a number
 abbrev pub bit : ℕ → ℕ → ℕ
@@ -11,9 +9,9 @@ bit n r = n / 2 ^ r % 2
 abbrev pub z_of : ℕ → ℕ → ℕ
 z_of passkey r = 128 + bit passkey r
 
--- Part H 2.3.5.6.3: twenty rounds, 0 to 19, and then authentication stage 2
-abbrev pub after_of : ℕ → Following
-after_of r = cond (ltb r 19) (Round (r + 1)) DHKeyCheck
+-- Part H 2.3.5.6.3: the round after r. There are twenty, 0 to 19, and then comes authentication stage 2
+abbrev pub after_of : ℕ → Option ℕ
+after_of r = cond (ltb r 19) (Some (r + 1)) None
 
 -- Part H 2.3.5.6.3: a passkey is a number of six decimal digits
 abbrev pub in_range : ℕ → Bool

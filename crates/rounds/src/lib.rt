@@ -5,13 +5,6 @@
 ghost use Rattle.std.specs.Prelude.{◌≡◌};
 ghost use Rattle.rounds.specs.Rounds.{z_of, after_of, in_range, secret_of};
 
-// What follows a round.
-#[derive(Clone, Copy)]
-pub enum Following {
-    Round(u8),
-    DHKeyCheck,
-}
-
 // Round r's z: 0x80 plus bit r of the passkey. Bits past the 32nd are zero.
 pub fn z(passkey: u32, round: u8) -> u8
     ensures { result ≡ z_of passkey round }
@@ -23,14 +16,11 @@ pub fn z(passkey: u32, round: u8) -> u8
     128 + (bit as u8)
 }
 
-// What follows round r: the next one, and the DHKey check after round 19.
-pub fn after(round: u8) -> Following
+// The round that follows round r. None follows round 19: the DHKey check comes.
+pub fn after(round: u8) -> Option<u8>
     ensures { result ≡ after_of round }
 {
-    if round < 19 {
-        return Following::Round(round + 1);
-    }
-    Following::DHKeyCheck
+    if round < 19 { Some(round + 1) } else { None }
 }
 
 // Whether a number is a passkey: at most six decimal digits.

@@ -1,16 +1,15 @@
 -- `address::decode` meets its contract. Assumes nothing.
-use mathlib.Core.Path.{◌∙◌}
-use Rattle.address.proofs.Identity.{too_short, public, random, no_type}
+use Rattle.std.proofs.Common.{◌∙◌, sym, ap}
+use Rattle.std.specs.Result.{result_ok}
+use Rattle.address.proofs.Identity.{too_short, typed, untyped}
 use Rattle.address.proofs.decode.Goals as goal
 
 pub returns-then-payload-lt7 : goal.returns-then-payload-lt7
-returns-then-payload-lt7 c = c.none.ensures ∙ too_short _ c.if-payload-lt7.true
+returns-then-payload-lt7 c = too_short _ c.if-payload-lt7.true
 
-pub returns-then-number-eq0 : goal.returns-then-number-eq0
-returns-then-number-eq0 c = rw (c.valid.ensures, c.reversed6.ensures) (public _ c.if-payload-lt7.false c.if-number-eq0.true)
-
-pub returns-then-number-eq1 : goal.returns-then-number-eq1
-returns-then-number-eq1 c = rw (c.valid-then-number-eq1.ensures, c.reversed6-then-number-eq1.ensures) (random _ c.if-payload-lt7.false c.if-number-eq0.false c.if-number-eq1.true)
+pub returns-in_err-ok : goal.returns-in_err-ok
+returns-in_err-ok c =
+    c.from_residual.ensures ∙ untyped _ c.if-payload-lt7.false (sym (c.ok.ensures.value ∙ ap result_ok c.try_from.ensures) ∙ c.in_err-ok.was)
 
 pub returns : goal.returns
-returns c = c.none-2.ensures ∙ no_type _ c.if-payload-lt7.false c.if-number-eq0.false c.if-number-eq1.false
+returns c = rw (c.reversed.ensures) (typed _ c.if-payload-lt7.false _ (sym (c.ok.ensures.value ∙ ap result_ok c.try_from.ensures) ∙ c.in_ok-ok.was))

@@ -20,4 +20,4 @@ returns c =
     let args = c.args in
     let v : length args.irk ≡ 16 = search rules in
     let a : length args.address.octets ≡ 6 = search rules in
-    both_framed _ _ _ 21 12 (length_frame _ _ 16 (length_value _ 16 v)) (length_frame _ _ 7 (ap suc (length_value _ 6 a))) _ _ _ _ c.if-out-lt33.false c.identity_information-first.ensures c.identity_address-second.ensures
+    both_framed _ _ _ 21 12 (length_frame _ _ 16 (length_value _ 16 v)) (length_frame _ _ 7 (ap suc (length_value _ 6 a))) _ _ _ _ c.if-out-lt33.false c.identity_information.ensures c.identity_address.ensures

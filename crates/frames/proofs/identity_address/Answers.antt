@@ -16,5 +16,5 @@ pub returns : goal.returns
 returns c =
     let v : length c.args.address.octets ≡ 6 = search rules in
     whole_frame _ 7 _ _ (ap suc (length_value _ 6 v)) _ c.if-out-lt12.false
-    (rw (← c.kind_number.ensures)
-    (then_part _ _ 6 refl _ _ _ 6 _ (length_value _ 6 v) c.if-out-lt12.false c.header_and.ensures c.put_reversed-n.ensures))
+    (rw (← c.from.ensures)
+    (then_part _ _ 6 refl _ _ _ 6 _ (length_value _ 6 v) c.if-out-lt12.false c.header_and.ensures c.put_reversed.ensures))

@@ -12,5 +12,5 @@ returns-then-out-lt11 c = no_frame _ 6 _ _ refl c.if-out-lt11.true
 pub returns : goal.returns
 returns c =
     whole_frame _ 6 _ _ refl _ c.if-out-lt11.false
-    (rw (← c.encode-octets.ensures)
-    (then_part _ _ 5 refl _ _ _ 6 _ (ap length c.encode-octets.ensures) c.if-out-lt11.false c.header.ensures c.put-n.ensures))
+    (rw (← c.encode.ensures)
+    (then_part _ _ 5 refl _ _ _ 6 _ (ap length c.encode.ensures) c.if-out-lt11.false c.header.ensures c.put.ensures))

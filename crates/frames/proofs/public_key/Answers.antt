@@ -21,5 +21,5 @@ returns c =
     let room : 37 ≤ length c.args.out.now = omega (arith, c.if-out-lt69.false) in
     whole_frame _ 64 _ _ (length_key _ _ x y) _ c.if-out-lt69.false
     (then_part _ _ 37 (length_head_value 65 12 _ 32 x) _ _ _ 32 _ (length_value _ 32 y) c.if-out-lt69.false
-    (then_part _ _ 5 refl _ _ _ 32 _ (length_value _ 32 x) room c.header.ensures c.put_reversed-x.ensures)
-    c.put_reversed-y.ensures)
+    (then_part _ _ 5 refl _ _ _ 32 _ (length_value _ 32 x) room c.header.ensures c.put_reversed.ensures)
+    c.put_reversed-2.ensures)

@@ -21,4 +21,4 @@ returns c =
     let x : length args.x ≡ 32 = search rules in
     let y : length args.y ≡ 32 = search rules in
     let v : length args.value ≡ 16 = search rules in
-    both_framed _ _ _ 69 21 (length_frame _ _ 64 (length_key _ _ x y)) (length_frame _ _ 16 (length_value _ 16 v)) _ _ _ _ c.if-out-lt90.false c.public_key-key.ensures c.confirm-confirm.ensures
+    both_framed _ _ _ 69 21 (length_frame _ _ 64 (length_key _ _ x y)) (length_frame _ _ 16 (length_value _ 16 v)) _ _ _ _ c.if-out-lt90.false c.public_key.ensures c.confirm.ensures

@@ -15,4 +15,4 @@ pub returns : goal.returns
 returns c =
     let v : length c.args.value ≡ 16 = search rules in
     whole_frame _ 16 _ _ (length_value _ 16 v) _ c.if-out-lt21.false
-    (then_part _ _ 5 refl _ _ _ 16 _ (length_value _ 16 v) c.if-out-lt21.false c.header.ensures c.put_reversed-n.ensures)
+    (then_part _ _ 5 refl _ _ _ 16 _ (length_value _ 16 v) c.if-out-lt21.false c.header.ensures c.put_reversed.ensures)

@@ -8,4 +8,4 @@ use Rattle.octets.proofs.all_zero16.Goals as goal
 
 pub returns : goal.returns
 unfolding zeros
-returns c = let n : length c.args.a ≡ 16 = search rules in c.equal16.ensures ∙ zero_same 16 _ n
+returns c = let n : length c.args.a ≡ 16 = search rules in c.equal.ensures ∙ zero_same 16 _ n

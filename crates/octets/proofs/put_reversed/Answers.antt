@@ -10,11 +10,11 @@ pub returns-then-dst-n : goal.returns-then-dst-n
 returns-then-dst-n c = too_short _ _ _ (length_flip _) c.if-dst-n.true
 
 pub loop-i-init : goal.loop-i-init
-loop-i-init c = (omega arith, (refl, turning_none _ _))
+loop-i-init c = (refl, turning_none _ _)
 
 pub loop-i-preserved : goal.loop-i-preserved
 loop-i-preserved c =
-    (omega arith, (simp length-set (omega arith), turning_more _ _ _ _ c.loop-i.invariant.1.1 c.loop-i-test.true c.if-dst-n.false))
+    (simp length-set (omega arith), turning_more _ _ _ _ c.loop-i.invariant.1 c.loop-i-test.true c.if-dst-n.false)
 
 pub returns : goal.returns
-returns c = written _ _ _ (length_flip _) _ c.if-dst-n.false (turning_all _ _ _ _ c.loop-i.invariant.1.1 (omega arith))
+returns c = written _ _ _ (length_flip _) _ c.if-dst-n.false (turning_all _ _ _ _ c.loop-i.invariant.1 (omega arith))
