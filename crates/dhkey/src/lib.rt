@@ -16,7 +16,7 @@ pub fn check(state: State, code: u8, payload: &[u8], supplied: Supplied, out: &m
         return states::failed(state, Failure::InvalidState);
     }
     if payloads::is_value(payload) {
-        return check_value(state, octets::reversed16(payload), supplied, out);
+        return check_value(state, octets::reversed(payload), supplied, out);
     }
     states::failed(state, Failure::DHKeyCheckFailed)
 }
@@ -26,7 +26,7 @@ pub fn check_value(state: State, value: [u8; 16], supplied: Supplied, out: &mut 
     ensures { Follows state supplied (checking state true value) result out.old out.new }
 {
     let right = supplied.peercheck;
-    if octets::equal16(value, right) {
+    if octets::equal(&value, &right) {
         let own_check = supplied.owncheck;
         let ltk = supplied.ltk;
         let sent = frames::dhkey_check(out, own_check);

@@ -50,7 +50,7 @@ fn holds(state: State, held: bool, awaited: u8, code: u8, payload: &[u8], phase:
     }
     if payloads::is_value(payload) {
         let mut secrets = state.secrets;
-        let early = octets::reversed16(payload);
+        let early = octets::reversed(payload);
         secrets.held = early;
         return states::goes(state, phase, secrets, 0, ConnectionEvent::Nothing);
     }

@@ -2,7 +2,7 @@
 // WaitingIdentitityInformation and WaitingIdentitityAddressInformation, and of a bonded link that is encrypted before any request.
 #![tactic(auto)]
 
-ghost use Rattle.std.specs.Prelude.{◌≡◌};
+ghost use Rattle.std.specs.Prelude.{◌≡◌, []};
 ghost use Rattle.octets.specs.Write.{Wrote};
 ghost use Rattle.frames.specs.Packets.{channel, framed};
 ghost use Rattle.protocol.specs.declared.Supplied.{Supplied};
@@ -11,6 +11,8 @@ ghost use Rattle.machine.specs.Keys.{
   informed,
   own_identity,
   encrypting,
+  succeeds,
+  addressed,
   on_bonded_link,
   on_encrypted,
   with_irk,
@@ -56,7 +58,7 @@ pub fn identity_information(state: State, code: u8, payload: &[u8]) -> Step
     );
     match verdict {
         Verdict::Wrong(failure) => states::failed(state, failure),
-        Verdict::Awaited => keep_irk(state, octets::reversed16(payload)),
+        Verdict::Awaited => keep_irk(state, octets::reversed(payload)),
     }
 }
 
@@ -85,17 +87,22 @@ pub fn identity_address(state: State, code: u8, payload: &[u8]) -> Step
     if code != frames::IDENTITY_ADDRESS {
         return states::failed(state, Failure::InvalidState);
     }
-    let received = address::decode(payload);
-    let identity = received.address;
-    if received.valid {
-        let bond = state.bond;
-        let mut known = state;
-        let with_address = bond_with_address(bond, identity);
-        known.bond = with_address;
-        known.peer = identity;
-        return states::succeeded(known, 0);
+    match address::decode(payload) {
+        Some(identity) => keep_address(state, identity),
+        None => states::failed(state, Failure::InvalidValue),
     }
-    states::failed(state, Failure::InvalidValue)
+}
+
+// The peer's identity address goes into the bond, and is its address from now on.
+fn keep_address(state: State, identity: Address) -> Step
+    ensures { (a : Supplied) → Quiet state a (ends (succeeds (addressed state identity) [])) result }
+{
+    let known = State {
+        bond: bond_with_address(state.bond, identity),
+        peer: identity,
+        ..state
+    };
+    states::succeeded(known, 0)
 }
 
 // Whether the link of a known peer is encrypted: the known bond, or none, is then the bond.

@@ -17,7 +17,7 @@ use Rattle.method.specs.declared.PairingMethod.TheVariants.{JustWorks, NumericCo
 use Rattle.method.specs.declared.PassKeyEntryAction.{PassKeyEntryAction}
 use Rattle.method.specs.declared.PassKeyEntryAction.TheVariants as W
 use Rattle.method.specs.Method.{method_of}
-use Rattle.rounds.specs.declared.Following.TheVariants.{Round, DHKeyCheck}
+use Rattle.std.specs.Prelude.{Some, None, unwrap_or}
 use Rattle.rounds.specs.Rounds.{after_of}
 use Rattle.frames.specs.Packets.{request_code, confirm_code, random_code, check_code, identity_information_code, pairing_random}
 use Rattle.protocol.specs.declared.Acceptance.{Acceptance}
@@ -34,7 +34,7 @@ use Rattle.protocol.specs.declared.Refusal.{Refusal}
 use Rattle.protocol.specs.declared.Refusal.TheVariants as R
 use Rattle.protocol.specs.declared.Secrets.{Secrets}
 use Rattle.protocol.specs.declared.Supplied.{Supplied}
-use Rattle.protocol.specs.Plan.{Plan, Ending, ends, goes, refuses, fails, runs, Along}
+use Rattle.protocol.specs.Plan.{Plan, Ending, ends, goes, refuses, fails, runs, Along, nowhere}
 use Rattle.protocol.specs.Parts.{key_x, is_value, accept_of, accepting, shown}
 use Rattle.protocol.specs.Exchanged.{fresh, set_nonces, set_held}
 use Rattle.protocol.specs.Role.{Call, command, event, ranged, enough, said, plan, run}
@@ -89,7 +89,7 @@ pub data Awaited (m : State) (c : Call) : Phase → Plan State → Type 0 where
   link : Encrypts c → Awaited m c P.WaitingLinkEncrypted (encrypting m)
   information : {w : List ℕ} → Value identity_information_code w c
       → Awaited m c P.WaitingIdentitityInformation (ends (goes (at (bonded m (with_irk m.bond (flip w))) P.WaitingIdentitityAddressInformation) [] E.Nothing))
-  address : {w : List ℕ} → Identity w c → Awaited m c P.WaitingIdentitityAddressInformation (ends (succeeds (addressed m (address_of w).address) []))
+  address : {w : List ℕ} → Identity w c → Awaited m c P.WaitingIdentitityAddressInformation (ends (succeeds (addressed m (unwrap_or (address_of w) nowhere)) []))
 
 -- What is awaited goes on so
 
@@ -221,7 +221,7 @@ visit m c H stay fail g =
 pub any_round : (r : ℕ) (X : Phase → Type 0) → (r < 19 → X (P.WaitingPassKeyEntryConfirm (r + 1))) → (19 ≤ r → X P.WaitingDHKeyEa) → X (waits (after_of r))
 any_round r X f g = go (ltb r 19) refl
   where
-    go : (b : Bool) → ltb r 19 ≡ b → X (waits (cond b (Round (r + 1)) DHKeyCheck))
+    go : (b : Bool) → ltb r 19 ≡ b → X (waits (cond b (Some (r + 1)) None))
     go true e = f (ltb-true r 19 e)
     go false e = g (ltb-false r 19 e)
 

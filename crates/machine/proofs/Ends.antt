@@ -15,7 +15,7 @@ use Rattle.features.specs.Features.{io_cap_of}
 use Rattle.method.specs.declared.PairingMethod.{PairingMethod}
 use Rattle.method.specs.declared.PairingMethod.TheVariants.{JustWorks, NumericComparison, PassKeyEntry, OutOfBand}
 use Rattle.method.specs.declared.PassKeyEntryAction.TheVariants as W
-use Rattle.rounds.specs.declared.Following.TheVariants.{Round, DHKeyCheck}
+use Rattle.std.specs.Prelude.{Some, None}
 use Rattle.rounds.specs.Rounds.{after_of, in_range}
 use Rattle.frames.specs.Packets.{Packet, request_code, public_key_code, confirm_code, random_code, check_code, pairing_response, pairing_confirm, pairing_random, dhkey_check}
 use Rattle.protocol.specs.declared.Acceptance.{Acceptance}
@@ -106,7 +106,7 @@ pub record End (m : State) (c : Call) (qs : List Question) (ds : List Draw) (e :
 rounded : (r : ℕ) → finished_phase (waits (after_of r)) ≡ false
 rounded r = go (ltb r 19)
   where
-    go : (b : Bool) → finished_phase (waits (cond b (Round (r + 1)) DHKeyCheck)) ≡ false
+    go : (b : Bool) → finished_phase (waits (cond b (Some (r + 1)) None)) ≡ false
     go true = refl
     go false = refl
 

@@ -5,12 +5,13 @@ use mathlib.Core.List.{List, [], ◌∷◌}
 use mathlib.Core.Bool.{true, false, cond, ◌&&◌}
 use mathlib.Core.Logic.{◌⊎◌, inl, inr}
 use Rattle.octets.specs.Octets.{flip}
+use Rattle.std.specs.Prelude.{unwrap_or}
 use Rattle.address.specs.Identity.{decode_of as address_of}
 use Rattle.features.specs.Bits.{identity_bit}
 use Rattle.frames.specs.Packets.{check_code, identity_information_code}
 use Rattle.protocol.specs.declared.ActionKind.TheVariants as K
 use Rattle.protocol.specs.declared.ConnectionEvent.TheVariants as E
-use Rattle.protocol.specs.Plan.{Plan, Ending, no_action, runs, Along}
+use Rattle.protocol.specs.Plan.{Plan, Ending, no_action, runs, Along, nowhere}
 use Rattle.protocol.specs.Role.{Call, Outcome, enough, said, plan, step, after, run, is_taken, keep, history}
 use Rattle.protocol.proofs.Runs.{replay, Roomy, roomy}
 use Rattle.machine.specs.declared.Phase.{Phase}
@@ -78,7 +79,7 @@ comes q (oob_random k) = (inr tt, λ h. clash (cc))
 comes q (check k e) = (inr (record { check = Checks.arrived refl k e; kind = refl; key = refl; there = refl; bond = refl }), λ h. Checks.arrived refl k e)
 comes {m} q (link i) = (λ b. (inr (Links.linked refl i, b), λ h. clash (cc)), λ b. (inr (Completes.link (Links.linked refl i) b), no_store m))
 comes q (information k) = (inr (Informs.information refl k), λ h. clash (cc))
-comes {m} q (address {w} k) = (inr (Completes.address refl k), no_store (addressed m (address_of w).address))
+comes {m} q (address {w} k) = (inr (Completes.address refl k), no_store (addressed m (unwrap_or (address_of w) nowhere)))
 
 module _ (m : State) (c : Call) where
   came : Comes m c (runs c.supplied (plan responder m c.input c.room))

@@ -1,5 +1,5 @@
 -- What Success means: the call that completes a pairing, and how a history ends that is complete.
-use Rattle.std.specs.Prelude.{ℕ, ◌≡◌, List, [], ◌∷◌, true, false}
+use Rattle.std.specs.Prelude.{ℕ, ◌≡◌, List, [], ◌∷◌, true, false, is_some}
 use Rattle.octets.specs.Octets.{flip}
 use Rattle.address.specs.Identity.{decode_of as address_of}
 use Rattle.features.specs.declared.PairingFeatures.{PairingFeatures}
@@ -23,7 +23,7 @@ Encrypts c = Raises (I.LinkEncryptedResult true) c
 -- an identity address that decodes (in octets: `address_iff`, protocol/proofs/Acceptable.antt)
 pub record Identity (w : List ℕ) (c : Call) : Type 0 where
   pub brings : Brings identity_address_code w c
-  pub valid : (address_of w).valid ≡ true
+  pub valid : is_some (address_of w) ≡ true
 
 -- an encrypted link, after a pairing or with no request
 pub data Links (m : State) (c : Call) : Type 0 where

@@ -1,8 +1,6 @@
 -- WaitingPassKeyInput, WaitingPassKeyEntryConfirm and WaitingPassKeyEntryRandom. Part H 2.3.5.6.3.
-use Rattle.std.specs.Prelude.{ℕ, List, [], ◌∷◌, Bool, true, false}
+use Rattle.std.specs.Prelude.{ℕ, List, [], ◌∷◌, Option, Some, None, Bool, true, false}
 use Rattle.octets.specs.Octets.{same}
-use Rattle.rounds.specs.declared.Following.{Following}
-use Rattle.rounds.specs.declared.Following.TheVariants.{Round, DHKeyCheck}
 use Rattle.rounds.specs.Rounds.{after_of, z_of}
 use Rattle.frames.specs.Packets.{confirm_code, random_code, pairing_confirm, pairing_random}
 use Rattle.protocol.specs.declared.ConnectionEvent.TheVariants as E
@@ -47,9 +45,9 @@ abbrev pub on_confirm : State → ℕ → ℕ → List ℕ → Plan State
 on_confirm m r code body = value confirm_code F.InvalidParameters code body λ v. confirming m m.secrets r v
 
 -- what is waited for after a round
-abbrev pub waits : Following → Phase
-waits (Round r) = P.WaitingPassKeyEntryConfirm r
-waits DHKeyCheck = P.WaitingDHKeyEa
+abbrev pub waits : Option ℕ → Phase
+waits (Some r) = P.WaitingPassKeyEntryConfirm r
+waits None = P.WaitingDHKeyEa
 
 -- round r's random that was compared: our nonce answers it
 abbrev pub matched : State → ℕ → List ℕ → Ending State

@@ -23,7 +23,7 @@ pub fn comparison_random(
         Verdict::Wrong(failure) => states::failed(state, failure),
         Verdict::Awaited => {
             let method = state.method;
-            compare(method, state, octets::reversed16(payload), supplied, out)
+            compare(method, state, octets::reversed(payload), supplied, out)
         }
     }
 }

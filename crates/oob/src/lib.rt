@@ -36,7 +36,7 @@ pub fn oob_random(
     let verdict = payloads::value(frames::PAIRING_RANDOM, Failure::InvalidValue, code, payload);
     match verdict {
         Verdict::Wrong(failure) => states::failed(state, failure),
-        Verdict::Awaited => answer_nonce(state, octets::reversed16(payload), supplied, out),
+        Verdict::Awaited => answer_nonce(state, octets::reversed(payload), supplied, out),
     }
 }
 
@@ -74,7 +74,7 @@ fn receive(state: State, values: OobData, supplied: Supplied) -> Step
     }
     let confirm = values.peerconfirm;
     let right = supplied.peerconfirm;
-    if octets::equal16(confirm, right) {
+    if octets::equal(&confirm, &right) {
         return received(state, values);
     }
     states::failed(state, Failure::ConfirmValueFailed)

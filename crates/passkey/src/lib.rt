@@ -9,7 +9,6 @@ ghost use Rattle.machine.specs.Responder.{Follows};
 
 use machine::{Phase, State, Step};
 use protocol::{ConnectionEvent, Event, Failure, Secrets, Supplied, Verdict};
-use rounds::Following;
 
 // An event in WaitingPassKeyInput: the passkey, or the user's no.
 pub fn typing_event(
@@ -48,7 +47,7 @@ pub fn confirm(
                 state,
                 secrets,
                 round,
-                octets::reversed16(payload),
+                octets::reversed(payload),
                 supplied,
                 out,
             )
@@ -70,7 +69,7 @@ pub fn random(
     let verdict = payloads::random(code, payload);
     match verdict {
         Verdict::Wrong(failure) => states::failed(state, failure),
-        Verdict::Awaited => test_round(state, round, octets::reversed16(payload), supplied, out),
+        Verdict::Awaited => test_round(state, round, octets::reversed(payload), supplied, out),
     }
 }
 
@@ -101,7 +100,7 @@ fn confirmed(state: State, supplied: Supplied) -> bool
     let secrets = state.secrets;
     let confirm = secrets.confirm;
     let right = supplied.peerconfirm;
-    octets::equal16(confirm, right)
+    octets::equal(&confirm, &right)
 }
 
 // The passkey was typed: it becomes both secrets, and a held confirm is round 0's.
@@ -155,7 +154,7 @@ fn following_phase(round: u8) -> Phase
 {
     let following = rounds::after(round);
     match following {
-        Following::Round(next) => Phase::WaitingPassKeyEntryConfirm(next),
-        Following::DHKeyCheck => Phase::WaitingDHKeyEa,
+        Some(next) => Phase::WaitingPassKeyEntryConfirm(next),
+        None => Phase::WaitingDHKeyEa,
     }
 }

@@ -71,9 +71,9 @@ pub fn peer_x(payload: &[u8]) -> [u8; 32]
     ensures { result ≡ turned 32 (take 32 payload.now) }
 {
     if payload.len() < 32 {
-        return octets::reversed32(payload);
+        return octets::reversed(payload);
     }
-    octets::reversed32(&payload[0..32])
+    octets::reversed(&payload[0..32])
 }
 
 pub fn peer_y(payload: &[u8]) -> [u8; 32]
@@ -82,5 +82,5 @@ pub fn peer_y(payload: &[u8]) -> [u8; 32]
     if payload.len() < 32 {
         return [0u8; 32];
     }
-    octets::reversed32(&payload[32..])
+    octets::reversed(&payload[32..])
 }

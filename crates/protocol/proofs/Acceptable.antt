@@ -8,10 +8,9 @@ use native.Mathlib.Omega.{arith}
 use lib.ListN.{length, get_or}
 use lib.Dec.{eqb, ltb, leb}
 use borrow.Author.Tests.{eqb-true, leb-true, le-leb, ltb-false, le-ltb}
-use Rattle.address.specs.Identity.{decode_of as address_of, received_of, none_of, body}
+use Rattle.address.specs.Identity.{decode_of as address_of, received_of, body}
 use Rattle.address.specs.declared.AddressKind.TheVariants.{Public, Random}
-use Rattle.features.specs.declared.Decoded.{Decoded}
-use Rattle.features.specs.declared.Decoded.TheVariants.{Features, Refused}
+use Rattle.std.specs.Prelude.{Option, Some, None, is_some}
 use Rattle.features.specs.declared.PairingFeatures.{PairingFeatures}
 use Rattle.features.specs.Bits.{secure_connections_bit}
 use Rattle.features.specs.Features.{decode_of, features_of}
@@ -47,23 +46,23 @@ acceptable_iff q f = (λ h. there (decode_of q) refl h, λ a. rw (← decodes q 
         let bits : get_or q 2 0 ≡ g.authreq = ap (λ (x : PairingFeatures). x.authreq) a.says in
         record { size = a.size; io = a.io; oob = a.oob; secure = rw bits s; keysize = omega (arith, keysize, ltb-false g.keysize 16 t); says = a.says ∙ same }
 
-    there : (d : Decoded) → decode_of q ≡ d → accept_of q ≡ Accepted f → Acceptable q f
-    there Refused e h = let k = rw e at h in clash (cc)
-    there (Features g) e h = passed g (accepted q g e) _ _ refl refl (rw e at h)
+    there : (d : Option PairingFeatures) → decode_of q ≡ d → accept_of q ≡ Accepted f → Acceptable q f
+    there None e h = let k = rw e at h in clash (cc)
+    there (Some g) e h = passed g (accepted q g e) _ _ refl refl (rw e at h)
 
 -- seven octets or more, the first of them 0 or 1
-pub address_iff : (w : List ℕ) → ((address_of w).valid ≡ true) ↔ ((7 ≤ length w) × (get_or w 0 0 ≤ 1))
+pub address_iff : (w : List ℕ) → (is_some (address_of w) ≡ true) ↔ ((7 ≤ length w) × (get_or w 0 0 ≤ 1))
 unfolding address_of
 address_iff w = (λ h. there (leb 7 (length w)) (eqb (get_or w 0 0) 0) (eqb (get_or w 0 0) 1) refl refl refl h, λ p. rw (le-leb 7 (length w) p.0) (back (get_or w 0 0) p.1))
   where
     there : (a b d : Bool) → leb 7 (length w) ≡ a → eqb (get_or w 0 0) 0 ≡ b → eqb (get_or w 0 0) 1 ≡ d
-        → (cond a (cond b (received_of Public (body w)) (cond d (received_of Random (body w)) none_of)) none_of).valid ≡ true → (7 ≤ length w) × (get_or w 0 0 ≤ 1)
+        → is_some (cond a (cond b (received_of Public (body w)) (cond d (received_of Random (body w)) None)) None) ≡ true → (7 ≤ length w) × (get_or w 0 0 ≤ 1)
     there true true d e f g k = (leb-true _ _ e, omega (arith, eqb-true (get_or w 0 0) 0 f))
     there true false true e f g k = (leb-true _ _ e, omega (arith, eqb-true (get_or w 0 0) 1 g))
     there true false false e f g k = clash (cc)
     there false b d e f g k = clash (cc)
 
-    back : (t : ℕ) → t ≤ 1 → (cond (eqb t 0) (received_of Public (body w)) (cond (eqb t 1) (received_of Random (body w)) none_of)).valid ≡ true
+    back : (t : ℕ) → t ≤ 1 → is_some (cond (eqb t 0) (received_of Public (body w)) (cond (eqb t 1) (received_of Random (body w)) None)) ≡ true
     back zero h = refl
     back (suc zero) h = refl
     back (suc (suc t)) h = absurd (omega arith)

@@ -5,8 +5,7 @@ use mathlib.Core.List.{List}
 use mathlib.Core.Bool.{Bool, true, false, cond}
 use lib.Dec.{ltb}
 use borrow.Author.Tests.{ltb-true, ltb-false}
-use Rattle.features.specs.declared.Decoded.{Decoded}
-use Rattle.features.specs.declared.Decoded.TheVariants.{Features, Refused}
+use Rattle.std.specs.Prelude.{Option, Some, None}
 use Rattle.features.specs.declared.PairingFeatures.{PairingFeatures}
 use Rattle.features.specs.Features.{decode_of}
 use Rattle.features.specs.Bits.{secure_connections_bit}
@@ -17,21 +16,21 @@ use Rattle.protocol.specs.Parts.{accept_of}
 
 -- octets are rejected for the first that is wrong, or taken as the features that they are
 pub data Heard (body : List ℕ) : Acceptance → Type 0 where
-  malformed : decode_of body ≡ Refused → Heard body (Rejected F.InvalidParameters)
-  insecure : {f : PairingFeatures} → decode_of body ≡ Features f → secure_connections_bit f.authreq ≡ false → Heard body (Rejected F.AuthenticationRequirements)
-  small : {f : PairingFeatures} → decode_of body ≡ Features f → f.keysize < 16 → Heard body (Rejected F.EncryptionKeySize)
-  right : {f : PairingFeatures} → decode_of body ≡ Features f → secure_connections_bit f.authreq ≡ true → 16 ≤ f.keysize → Heard body (Accepted f)
+  malformed : decode_of body ≡ None → Heard body (Rejected F.InvalidParameters)
+  insecure : {f : PairingFeatures} → decode_of body ≡ Some f → secure_connections_bit f.authreq ≡ false → Heard body (Rejected F.AuthenticationRequirements)
+  small : {f : PairingFeatures} → decode_of body ≡ Some f → f.keysize < 16 → Heard body (Rejected F.EncryptionKeySize)
+  right : {f : PairingFeatures} → decode_of body ≡ Some f → secure_connections_bit f.authreq ≡ true → 16 ≤ f.keysize → Heard body (Accepted f)
 
 pub heard : (body : List ℕ) → Heard body (accept_of body)
 unfolding accept_of
 heard body = go (decode_of body) refl
   where
-    sized : (f : PairingFeatures) → decode_of body ≡ Features f → (s t : Bool) → secure_connections_bit f.authreq ≡ s → ltb f.keysize 16 ≡ t
+    sized : (f : PairingFeatures) → decode_of body ≡ Some f → (s t : Bool) → secure_connections_bit f.authreq ≡ s → ltb f.keysize 16 ≡ t
         → Heard body (cond s (cond t (Rejected F.EncryptionKeySize) (Accepted f)) (Rejected F.AuthenticationRequirements))
     sized f e false t p q = insecure e p
     sized f e true true p q = small e (ltb-true f.keysize 16 q)
     sized f e true false p q = right e p (ltb-false f.keysize 16 q)
 
-    go : (d : Decoded) → decode_of body ≡ d → Heard body (accept_of body)
-    go Refused e = rw e (malformed e)
-    go (Features f) e = rw e (sized f e _ _ refl refl)
+    go : (d : Option PairingFeatures) → decode_of body ≡ d → Heard body (accept_of body)
+    go None e = rw e (malformed e)
+    go (Some f) e = rw e (sized f e _ _ refl refl)

@@ -1,10 +1,8 @@
 -- The parts that plans are made of: how a packet that comes is read, which passkey is shown, and what is asked. Of any type S of states.
-use Rattle.std.specs.Prelude.{ℕ, List, Bool, cond, not, length, take, drop, eqb, ltb}
+use Rattle.std.specs.Prelude.{ℕ, List, Option, Some, None, is_some, unwrap_or, Bool, cond, not, length, take, drop, eqb, ltb}
 use Rattle.octets.specs.Octets.{flip, zeros}
 use Rattle.address.specs.declared.Address.{Address}
 use Rattle.address.specs.Identity.{decode_of as address_of}
-use Rattle.features.specs.declared.Decoded.{Decoded}
-use Rattle.features.specs.declared.Decoded.TheVariants.{Features, Refused}
 use Rattle.features.specs.declared.PairingFeatures.{PairingFeatures}
 use Rattle.features.specs.Features.{decode_of}
 use Rattle.features.specs.Bits.{secure_connections_bit}
@@ -28,9 +26,9 @@ use Rattle.protocol.specs.Plan.{Plan, ends, draws_passkey, tests, refuses, fails
 -- Features
 
 -- the tests of a peer's features, in their order
-abbrev tested : Decoded → Acceptance
-tested Refused = Rejected F.InvalidParameters
-tested (Features f) =
+abbrev tested : Option PairingFeatures → Acceptance
+tested None = Rejected F.InvalidParameters
+tested (Some f) =
     cond (secure_connections_bit f.authreq)
     (cond (ltb f.keysize 16) (Rejected F.EncryptionKeySize) (Accepted f))
     (Rejected F.AuthenticationRequirements)
@@ -87,7 +85,7 @@ module _ {S : Type 0} where
   -- an identity address
   abbrev pub identity : ℕ → List ℕ → (Address → Plan S) → Plan S
   identity code body p =
-      needs (eqb code identity_address_code) F.InvalidState (needs (address_of body).valid F.InvalidValue (p (address_of body).address))
+      needs (eqb code identity_address_code) F.InvalidState (needs (is_some (address_of body)) F.InvalidValue (p (unwrap_or (address_of body) nowhere)))
 
   -- the passkey that is shown: the configured one, or the drawn one, which the call is refused for where it is out of range
   abbrev pub shown : Configured → (ℕ → Plan S) → Plan S

@@ -162,7 +162,7 @@ fn comparison(state: State, code: u8, payload: &[u8], supplied: Supplied, given:
         Verdict::Wrong(_failure) => asking::none(),
         Verdict::Awaited => {
             let method = state.method;
-            number(method, state, octets::reversed16(payload), supplied, given)
+            number(method, state, octets::reversed(payload), supplied, given)
         }
     }
 }
@@ -246,7 +246,7 @@ fn random(
         Verdict::Awaited => peer_confirm(
             state,
             round,
-            octets::reversed16(payload),
+            octets::reversed(payload),
             supplied,
             given,
         ),
@@ -281,7 +281,7 @@ fn check(state: State, code: u8, payload: &[u8], supplied: Supplied, given: Give
         return asking::none();
     }
     if payloads::is_value(payload) {
-        return check_value(state, octets::reversed16(payload), supplied, given);
+        return check_value(state, octets::reversed(payload), supplied, given);
     }
     peer_check(state, supplied, given)
 }
@@ -293,7 +293,7 @@ fn check_value(state: State, value: [u8; 16], supplied: Supplied, given: Given) 
     if given.f5 {
         if given.peercheck {
             let right = supplied.peercheck;
-            if octets::equal16(value, right) {
+            if octets::equal(&value, &right) {
                 return unless(given.owncheck, ask_own_check(state, supplied));
             }
             return asking::none();

@@ -11,7 +11,7 @@ ghost use Rattle.protocol.specs.Parts.{accept_of, accepting};
 ghost use Rattle.machine.specs.Request.{interactive, own_features, lost, responding, on_request};
 ghost use Rattle.machine.specs.Responder.{Follows};
 
-use features::{Decoded, IoCapabilities, PairingFeatures};
+use features::{IoCapabilities, PairingFeatures};
 use machine::{Phase, Progress, State, Step};
 use protocol::{Acceptance, Answer, ConnectionEvent, Failure, Setup};
 
@@ -21,8 +21,8 @@ pub fn accept(payload: &[u8]) -> Acceptance
 {
     let decoded = features::decode(payload);
     match decoded {
-        Decoded::Refused => Acceptance::Rejected(Failure::InvalidParameters),
-        Decoded::Features(peer) => {
+        None => Acceptance::Rejected(Failure::InvalidParameters),
+        Some(peer) => {
             if peer.secure_connection() {
                 if peer.keysize < 16 {
                     return Acceptance::Rejected(Failure::EncryptionKeySize);

@@ -193,8 +193,8 @@ fn setup_head(call: SetupCall) -> [u8; 11]
         start_number(start),
         outbox[0],
         outbox[1],
-        features::io_number(io),
-        features::oob_number(oob),
+        u8::from(io),
+        u8::from(oob),
         fields::flag(setup.bonding),
         configured_number(passkey),
         digits[0],
@@ -267,7 +267,7 @@ fn place_address(out: &mut [u8], at: usize, address: Address)
 {
     let kind = address.kind;
     let o = address.octets;
-    let type_number = address::kind_number(kind);
+    let type_number = u8::from(kind);
     fields::place(out, at, &[type_number, o[0], o[1], o[2], o[3], o[4], o[5]]);
 }
 

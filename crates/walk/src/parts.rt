@@ -128,7 +128,7 @@ pub(crate) fn bond(line: Line, bond: Bond) -> Line {
 pub(crate) fn address(line: Line, address: Address) -> Line {
     let kind = address.kind;
     let octets = address.octets;
-    line.hex(&[address::kind_number(kind)]).hex(&octets)
+    line.hex(&[u8::from(kind)]).hex(&octets)
 }
 
 // A question with its arguments.

@@ -16,7 +16,7 @@ pub returns-then-is_value : goal.returns-then-is_value
 returns-then-is_value c =
     let whole = sym c.is_value.ensures ∙ c.if-is_value.true in
     λ a out. passes (eq-eqb _ _ c.if-code-awaited.false) (passes (ap not c.if-held.false) (passes whole
-    (rw (← (c.reversed16-early.ensures ∙ turned_whole 16 _ (eqb-true _ 16 whole))) (moving_silent c.goes.ensures))))
+    (rw (← (c.reversed-early.ensures ∙ turned_whole 16 _ (eqb-true _ 16 whole))) (moving_silent c.goes.ensures))))
 
 pub returns : goal.returns
 returns c =

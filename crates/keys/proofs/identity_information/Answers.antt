@@ -10,4 +10,4 @@ pub returns-in-Awaited : goal.returns-in-Awaited
 returns-in-Awaited c =
     let verdict = c.value-verdict.ensures in
     let told = c.in-Awaited.is in
-    λ a out. awaited verdict told (rw (← (c.reversed16.ensures ∙ read_value _ _ _ verdict told)) (c.keep_irk.ensures a out))
+    λ a out. awaited verdict told (rw (← (c.reversed.ensures ∙ read_value _ _ _ verdict told)) (c.keep_irk.ensures a out))

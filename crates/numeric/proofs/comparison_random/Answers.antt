@@ -10,4 +10,4 @@ pub returns-in-Awaited : goal.returns-in-Awaited
 returns-in-Awaited c =
     let verdict = c.random-verdict.ensures in
     let told = c.in-Awaited.is in
-    awaited verdict told (rw (← (c.reversed16.ensures ∙ read_value _ _ _ verdict told)) c.compare.ensures)
+    awaited verdict told (rw (← (c.reversed.ensures ∙ read_value _ _ _ verdict told)) c.compare.ensures)

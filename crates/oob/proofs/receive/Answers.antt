@@ -6,12 +6,12 @@ use Rattle.oob.proofs.receive.Goals as goal
 pub returns-then-absent : goal.returns-then-absent
 returns-then-absent c = λ out. passes (sym c.absent.ensures ∙ c.if-absent.true) (c.received.ensures _ out)
 
-pub returns-then-equal16 : goal.returns-then-equal16
-returns-then-equal16 c =
+pub returns-then-equal : goal.returns-then-equal
+returns-then-equal c =
     λ out. stops (sym c.absent.ensures ∙ c.if-absent.false)
-    (asking (passes (sym c.equal16.ensures ∙ c.if-equal16.true) (c.received-then-equal16.ensures _ out)))
+    (asking (passes (sym c.equal.ensures ∙ c.if-equal.true) (c.received-then-equal.ensures _ out)))
 
 pub returns : goal.returns
 returns c =
     λ out. stops (sym c.absent.ensures ∙ c.if-absent.false)
-    (asking (stops (sym c.equal16.ensures ∙ c.if-equal16.false) (failing c.failed.ensures)))
+    (asking (stops (sym c.equal.ensures ∙ c.if-equal.false) (failing c.failed.ensures)))

@@ -14,4 +14,4 @@ returns-then-payload-lt32 c = rw (drop_of_length-le c.args.payload.now {i = 32} 
 pub returns : goal.returns
 returns c =
     let l = c.args.payload.now in
-    c.reversed32.ensures ∙ ap (turned 32) (take_all (length l - 32) (drop 32 l) (omega (arith, length-drop 32 l)))
+    c.reversed.ensures ∙ ap (turned 32) (take_all (length l - 32) (drop 32 l) (omega (arith, length-drop 32 l)))

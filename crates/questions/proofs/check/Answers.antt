@@ -12,7 +12,7 @@ returns-then-code-ne-DHKEY_CHECK c = stopped (ne_eqb _ _ c.if-code-ne-DHKEY_CHEC
 pub returns-then-is_value : goal.returns-then-is_value
 returns-then-is_value c =
     let whole = sym c.is_value.ensures ∙ c.if-is_value.true in
-    passed (eq-eqb _ _ c.if-code-ne-DHKEY_CHECK.false) (rw (whole, ← (c.reversed16.ensures ∙ turned_whole 16 _ (eqb-true _ 16 whole))) c.check_value.ensures)
+    passed (eq-eqb _ _ c.if-code-ne-DHKEY_CHECK.false) (rw (whole, ← (c.reversed.ensures ∙ turned_whole 16 _ (eqb-true _ 16 whole))) c.check_value.ensures)
 
 pub returns : goal.returns
 returns c =

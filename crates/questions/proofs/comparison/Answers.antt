@@ -11,4 +11,4 @@ pub returns-in-Awaited : goal.returns-in-Awaited
 returns-in-Awaited c =
     let verdict = c.random-verdict.ensures in
     let told = c.in-Awaited.is in
-    awaited_asks verdict told (rw (← (c.reversed16.ensures ∙ read_value _ _ _ verdict told)) c.number.ensures)
+    awaited_asks verdict told (rw (← (c.reversed.ensures ∙ read_value _ _ _ verdict told)) c.number.ensures)

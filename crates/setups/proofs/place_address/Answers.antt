@@ -13,4 +13,4 @@ returns c =
     let address = c.args.address in
     let v : length address.octets ≡ 6 = search rules in
     as_rows _ (piece 7 _ c.place.ensures refl)
-    (rw c.kind_number-type_number.ensures (ap (λ (l : List ℕ). kind_number address.kind ∷ l) (sym (six_bytes address.octets v))))
+    (rw c.from-type_number.ensures (ap (λ (l : List ℕ). kind_number address.kind ∷ l) (sym (six_bytes address.octets v))))

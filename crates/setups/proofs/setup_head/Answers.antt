@@ -4,4 +4,4 @@ use Rattle.setups.proofs.setup_head.Goals as goal
 
 pub returns : goal.returns
 unfolding little join
-returns c = rw (c.configured_number.ensures, c.flag.ensures.0, c.oob_number.ensures, c.io_number.ensures, c.start_number.ensures, c.bytes4-digits.ensures, c.configured_passkey.ensures, c.bytes2-outbox.ensures)
+returns c = rw (c.configured_number.ensures, c.flag.ensures.0, c.from-2.ensures, c.from.ensures, c.start_number.ensures, c.bytes4-digits.ensures, c.configured_passkey.ensures, c.bytes2-outbox.ensures)
