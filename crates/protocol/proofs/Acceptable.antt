@@ -1,4 +1,5 @@
 -- What acceptable features and an identity address are in octets, both ways. Assumes nothing.
+use Rattle.std.specs.Prelude.{Option, Some, None, is_some, Ok, Err}
 use Prim.Native.Nat.{ℕ, zero, suc, ◌≤◌}
 use mathlib.Core.Path.{◌≡◌, refl, ap, ◌∙◌}
 use mathlib.Core.List.{List}
@@ -10,13 +11,11 @@ use lib.Dec.{eqb, ltb, leb}
 use borrow.Author.Tests.{eqb-true, leb-true, le-leb, ltb-false, le-ltb}
 use Rattle.address.specs.Identity.{decode_of as address_of, received_of, body}
 use Rattle.address.specs.declared.AddressKind.TheVariants.{Public, Random}
-use Rattle.std.specs.Prelude.{Option, Some, None, is_some}
 use Rattle.features.specs.declared.PairingFeatures.{PairingFeatures}
 use Rattle.features.specs.Bits.{secure_connections_bit}
 use Rattle.features.specs.Features.{decode_of, features_of}
 use Rattle.features.proofs.Features.{accepted, decodes}
 use Rattle.features.proofs.Features as Codec
-use Rattle.protocol.specs.declared.Acceptance.TheVariants.{Accepted, Rejected}
 use Rattle.protocol.specs.declared.Failure.TheVariants as F
 use Rattle.protocol.specs.Parts.{accept_of}
 
@@ -32,12 +31,12 @@ pub record Acceptable (q : List ℕ) (f : PairingFeatures) : Type 0 where
 clash : {A : Type 0} → ◌≡◌ {A = ℕ} 0 1 → A
 clash e = absurd (omega arith)
 
-pub acceptable_iff : (q : List ℕ) (f : PairingFeatures) → (accept_of q ≡ Accepted f) ↔ Acceptable q f
+pub acceptable_iff : (q : List ℕ) (f : PairingFeatures) → (accept_of q ≡ Ok f) ↔ Acceptable q f
 unfolding accept_of
 acceptable_iff q f = (λ h. there (decode_of q) refl h, λ a. rw (← decodes q a.size a.io a.oob, a.secure, le-ltb (get_or q 3 0) 16 a.keysize, a.says))
   where
     passed : (g : PairingFeatures) → Codec.Accepted q g → (b d : Bool) → secure_connections_bit g.authreq ≡ b → ltb g.keysize 16 ≡ d
-        → cond b (cond d (Rejected F.EncryptionKeySize) (Accepted g)) (Rejected F.AuthenticationRequirements) ≡ Accepted f → Acceptable q f
+        → cond b (cond d (Err F.EncryptionKeySize) (Ok g)) (Err F.AuthenticationRequirements) ≡ Ok f → Acceptable q f
     passed g a false d s t h = clash (cc)
     passed g a true true s t h = clash (cc)
     passed g a true false s t h =
@@ -46,7 +45,7 @@ acceptable_iff q f = (λ h. there (decode_of q) refl h, λ a. rw (← decodes q 
         let bits : get_or q 2 0 ≡ g.authreq = ap (λ (x : PairingFeatures). x.authreq) a.says in
         record { size = a.size; io = a.io; oob = a.oob; secure = rw bits s; keysize = omega (arith, keysize, ltb-false g.keysize 16 t); says = a.says ∙ same }
 
-    there : (d : Option PairingFeatures) → decode_of q ≡ d → accept_of q ≡ Accepted f → Acceptable q f
+    there : (d : Option PairingFeatures) → decode_of q ≡ d → accept_of q ≡ Ok f → Acceptable q f
     there None e h = let k = rw e at h in clash (cc)
     there (Some g) e h = passed g (accepted q g e) _ _ refl refl (rw e at h)
 

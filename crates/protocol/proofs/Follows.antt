@@ -1,4 +1,5 @@
 -- What the proofs of steps cite, for every role: a plan is followed through each test, question and draw to its end. Assumes nothing.
+use Rattle.std.specs.Prelude.{Option, None, Result, Ok, Err}
 use Prim.Native.Nat.{ℕ}
 use mathlib.Core.Path.{◌≡◌, refl, sym, ap, ◌∙◌}
 use mathlib.Core.List.{List, []}
@@ -14,14 +15,11 @@ use Rattle.octets.proofs.Write.{written}
 use Rattle.frames.specs.Packets.{Packet, framed}
 use Rattle.protocol.specs.declared.Action.{Action}
 use Rattle.protocol.specs.declared.ConnectionEvent.{ConnectionEvent}
-use Rattle.protocol.specs.declared.ConnectionEvent.TheVariants as E
 use Rattle.protocol.specs.declared.Failure.{Failure}
 use Rattle.protocol.specs.declared.Failure.TheVariants as F
 use Rattle.protocol.specs.declared.Question.{Question}
 use Rattle.protocol.specs.declared.Refusal.{Refusal}
 use Rattle.protocol.specs.declared.Supplied.{Supplied}
-use Rattle.protocol.specs.declared.Verdict.{Verdict}
-use Rattle.protocol.specs.declared.Verdict.TheVariants.{Awaited, Wrong}
 use Rattle.protocol.specs.Plan.{Plan, Reply, ends, asks, draws_nonce, draws_passkey, tests, refuses, fails, moves, reply, runs, needs}
 use Rattle.protocol.specs.Parts.{is_value, is_key, key_x, key_y, verdict_of}
 use Rattle.protocol.specs.Role.{Role, Outcome, said}
@@ -34,32 +32,36 @@ nothing channel out = written [] out 0 refl out (omega arith) refl
 
 -- Verdicts
 
-pub awaited_wrong : {x : Failure} → Awaited ≡ Wrong x → ⊥
+pub awaited_wrong : {A : Type 0} {x : A} {f : Failure} → ◌≡◌ {A = Result A Failure} (Ok x) (Err f) → ⊥
 awaited_wrong e = let z : ◌≡◌ {A = ℕ} 0 1 = cc in omega arith
 
-pub same_wrong : {x y : Failure} → Wrong x ≡ Wrong y → x ≡ y
+pub same_wrong : {A : Type 0} {x y : Failure} → ◌≡◌ {A = Result A Failure} (Err x) (Err y) → x ≡ y
 same_wrong e = cc
 
 -- what is awaited has the right length
-pub awaited_size : (b d : Bool) (f : Failure) {v : Verdict} → v ≡ verdict_of b d f → v ≡ Awaited → d ≡ true
+pub awaited_size : {A : Type 0} (b d : Bool) (f : Failure) (x : A) {y : A} {v : Result A Failure} → v ≡ verdict_of b d f x → v ≡ Ok y → d ≡ true
 unfolding verdict_of
-awaited_size b true f e w = refl
-awaited_size true false f e w = absurd (awaited_wrong (sym w ∙ e))
-awaited_size false false f e w = absurd (awaited_wrong (sym w ∙ e))
+awaited_size b true f x e w = refl
+awaited_size true false f x e w = absurd (awaited_wrong (sym w ∙ e))
+awaited_size false false f x e w = absurd (awaited_wrong (sym w ∙ e))
 
--- and turned round it is the value that was read
-pub read_value : (b : Bool) (body : List ℕ) (f : Failure) {v : Verdict} → v ≡ verdict_of b (is_value body) f → v ≡ Awaited → turned 16 body ≡ flip body
-read_value b body f e w = turned_whole 16 body (eqb-true (length body) 16 (awaited_size b (is_value body) f e w))
+-- and is the value that was read
+pub awaited_value : {A : Type 0} (b d : Bool) (f : Failure) {x y : A} {v : Result A Failure} → v ≡ verdict_of b d f x → v ≡ Ok y → y ≡ x
+unfolding verdict_of
+awaited_value true true f e w = let same = sym w ∙ e in cc
+awaited_value true false f e w = absurd (awaited_wrong (sym w ∙ e))
+awaited_value false d f e w = absurd (awaited_wrong (sym w ∙ e))
 
--- and of a public key, the coordinates
-key_size : (b : Bool) (body : List ℕ) (f : Failure) {v : Verdict} → v ≡ verdict_of b (is_key body) f → v ≡ Awaited → length body ≡ 64
-key_size b body f e w = eqb-true (length body) 64 (awaited_size b (is_key body) f e w)
+-- of a value's payload, turned round
+pub read_value : (body : List ℕ) → is_value body ≡ true → turned 16 body ≡ flip body
+read_value body h = turned_whole 16 body (eqb-true (length body) 16 h)
 
-pub read_x : (b : Bool) (body : List ℕ) (f : Failure) {v : Verdict} → v ≡ verdict_of b (is_key body) f → v ≡ Awaited → turned 32 (take 32 body) ≡ key_x body
-read_x b body f e w = turned_whole 32 (take 32 body) (length-take-le 32 body (omega (arith, key_size b body f e w)))
+-- of a public key's, the coordinates
+pub read_x : (body : List ℕ) → is_key body ≡ true → turned 32 (take 32 body) ≡ key_x body
+read_x body h = turned_whole 32 (take 32 body) (length-take-le 32 body (omega (arith, eqb-true (length body) 64 h)))
 
-pub read_y : (b : Bool) (body : List ℕ) (f : Failure) {v : Verdict} → v ≡ verdict_of b (is_key body) f → v ≡ Awaited → turned 32 (drop 32 body) ≡ key_y body
-read_y b body f e w = turned_whole 32 (drop 32 body) (length-drop 32 body ∙ omega (arith, key_size b body f e w))
+pub read_y : (body : List ℕ) → is_key body ≡ true → turned 32 (drop 32 body) ≡ key_y body
+read_y body h = turned_whole 32 (drop 32 body) (length-drop 32 body ∙ omega (arith, eqb-true (length body) 64 h))
 
 pub met : {S T : Type 0} {given : Outcome S → ℕ → T} {channel : ℕ} {o : Outcome S} {r : T} {before after : List ℕ} (n : ℕ) → r ≡ given o n
     → Wrote (framed channel o.packets) before n after → Met given channel o r before after
@@ -77,17 +79,17 @@ module _ {S T : Type 0} {role : Role S} {given : Outcome S → ℕ → T} {chann
   unfolding runs
   refusing {out} h = record { met = met 0 h (nothing channel out) }
 
-  pub failing : {e : ConnectionEvent} {f : Failure} {out : List ℕ} → r ≡ given (said role m (fails e f)) 0 → Followed role given channel m a (ends (fails e f)) r out out
+  pub failing : {e : Option ConnectionEvent} {f : Failure} {out : List ℕ} → r ≡ given (said role m (fails e f)) 0 → Followed role given channel m a (ends (fails e f)) r out out
   unfolding runs
   failing {out} h = record { met = met 0 h (nothing channel out) }
 
-  pub moving : {s : S} {ps : List Packet} {e e' : ConnectionEvent} {x : Action} {n : ℕ} {before after : List ℕ} → r ≡ given (said role m (moves s ps e e' x)) n
+  pub moving : {s : S} {ps : List Packet} {e e' : Option ConnectionEvent} {x : Option Action} {n : ℕ} {before after : List ℕ} → r ≡ given (said role m (moves s ps e e' x)) n
       → Wrote (framed channel ps) before n after → Followed role given channel m a (ends (moves s ps e e' x)) r before after
   unfolding runs
   moving {n} h w = record { met = met n h w }
 
   -- with nothing to send
-  pub moving_silent : {s : S} {e e' : ConnectionEvent} {x : Action} {out : List ℕ} → r ≡ given (said role m (moves s [] e e' x)) 0
+  pub moving_silent : {s : S} {e e' : Option ConnectionEvent} {x : Option Action} {out : List ℕ} → r ≡ given (said role m (moves s [] e e' x)) 0
       → Followed role given channel m a (ends (moves s [] e e' x)) r out out
   moving_silent {out} h = moving h (nothing channel out)
 
@@ -120,16 +122,16 @@ module _ {S T : Type 0} {role : Role S} {given : Outcome S → ℕ → T} {chann
 
   -- A command's code and length, judged
 
-  pub wrong : {b d : Bool} {f x : Failure} {v : Verdict} {q : Plan S} {out : List ℕ} → v ≡ verdict_of b d f → v ≡ Wrong x → r ≡ given (said role m (fails E.Nothing x)) 0
+  pub wrong : {A : Type 0} {b d : Bool} {f x : Failure} (y : A) {v : Result A Failure} {q : Plan S} {out : List ℕ} → v ≡ verdict_of b d f y → v ≡ Err x → r ≡ given (said role m (fails None x)) 0
       → Followed role given channel m a (needs b F.InvalidState (needs d f q)) r out out
   unfolding verdict_of
-  wrong {b = true} {d = true} e w h = absurd (awaited_wrong (sym e ∙ w))
-  wrong {b = true} {d = false} {f} {x} e w h = passes refl (stops refl (failing (h ∙ ap (λ y. given (said role m (fails E.Nothing y)) 0) (same_wrong (sym w ∙ e)))))
-  wrong {b = false} {x} e w h = stops refl (failing (h ∙ ap (λ y. given (said role m (fails E.Nothing y)) 0) (same_wrong (sym w ∙ e))))
+  wrong {b = true} {d = true} y e w h = absurd (awaited_wrong (sym e ∙ w))
+  wrong {b = true} {d = false} {f} {x} y e w h = passes refl (stops refl (failing (h ∙ ap (λ z. given (said role m (fails None z)) 0) (same_wrong (sym w ∙ e)))))
+  wrong {b = false} {x} y e w h = stops refl (failing (h ∙ ap (λ z. given (said role m (fails None z)) 0) (same_wrong (sym w ∙ e))))
 
-  pub awaited : {b d : Bool} {f : Failure} {v : Verdict} {q : Plan S} {before after : List ℕ} → v ≡ verdict_of b d f → v ≡ Awaited → Followed role given channel m a q r before after
+  pub awaited : {A : Type 0} {b d : Bool} {f : Failure} (x : A) {y : A} {v : Result A Failure} {q : Plan S} {before after : List ℕ} → v ≡ verdict_of b d f x → v ≡ Ok y → Followed role given channel m a q r before after
       → Followed role given channel m a (needs b F.InvalidState (needs d f q)) r before after
   unfolding verdict_of
-  awaited {b = true} {d = true} e w h = passes refl (passes refl h)
-  awaited {b = true} {d = false} e w h = absurd (awaited_wrong (sym w ∙ e))
-  awaited {b = false} e w h = absurd (awaited_wrong (sym w ∙ e))
+  awaited {b = true} {d = true} x e w h = passes refl (passes refl h)
+  awaited {b = true} {d = false} x e w h = absurd (awaited_wrong (sym w ∙ e))
+  awaited {b = false} x e w h = absurd (awaited_wrong (sym w ∙ e))

@@ -1,4 +1,5 @@
 -- What the proofs of the query cite, for every role: the next question is looked for through each test, question and draw. Assumes nothing.
+use Rattle.std.specs.Prelude.{Result, Ok, Err}
 use Prim.Native.Nat.{ℕ}
 use mathlib.Core.Path.{◌≡◌, refl, sym, ap, ◌∙◌}
 use mathlib.Core.List.{List}
@@ -8,8 +9,6 @@ use Rattle.protocol.specs.declared.Failure.TheVariants as F
 use Rattle.protocol.specs.declared.Given.{Given}
 use Rattle.protocol.specs.declared.Question.{Question}
 use Rattle.protocol.specs.declared.Supplied.{Supplied}
-use Rattle.protocol.specs.declared.Verdict.{Verdict}
-use Rattle.protocol.specs.declared.Verdict.TheVariants.{Awaited, Wrong}
 use Rattle.protocol.specs.Plan.{Plan, Ending, Reply, ends, asks, draws_nonce, draws_passkey, tests, reply, asked, needs}
 use Rattle.protocol.specs.Parts.{no_question, verdict_of}
 use Rattle.protocol.specs.Next.{known, next_of, Queried}
@@ -58,14 +57,14 @@ module _ {S : Type 0} {g : Given} {a : Supplied} {r : Question} where
   either {b = false} h i = stopped refl i
 
   -- a command's code and length, judged
-  pub wrong_asks : {b d : Bool} {f x : Failure} {v : Verdict} {q : Plan S} → v ≡ verdict_of b d f → v ≡ Wrong x → r ≡ no_question → Queried g a (needs b F.InvalidState (needs d f q)) r
+  pub wrong_asks : {A : Type 0} {b d : Bool} {f x : Failure} (y : A) {v : Result A Failure} {q : Plan S} → v ≡ verdict_of b d f y → v ≡ Err x → r ≡ no_question → Queried g a (needs b F.InvalidState (needs d f q)) r
   unfolding verdict_of
-  wrong_asks {b = true} {d = true} e w h = absurd (awaited_wrong (sym e ∙ w))
-  wrong_asks {b = true} {d = false} e w h = passed refl (stopped refl (asks_nothing h))
-  wrong_asks {b = false} e w h = stopped refl (asks_nothing h)
+  wrong_asks {b = true} {d = true} y e w h = absurd (awaited_wrong (sym e ∙ w))
+  wrong_asks {b = true} {d = false} y e w h = passed refl (stopped refl (asks_nothing h))
+  wrong_asks {b = false} y e w h = stopped refl (asks_nothing h)
 
-  pub awaited_asks : {b d : Bool} {f : Failure} {v : Verdict} {q : Plan S} → v ≡ verdict_of b d f → v ≡ Awaited → Queried g a q r → Queried g a (needs b F.InvalidState (needs d f q)) r
+  pub awaited_asks : {A : Type 0} {b d : Bool} {f : Failure} (x : A) {y : A} {v : Result A Failure} {q : Plan S} → v ≡ verdict_of b d f x → v ≡ Ok y → Queried g a q r → Queried g a (needs b F.InvalidState (needs d f q)) r
   unfolding verdict_of
-  awaited_asks {b = true} {d = true} e w h = passed refl (passed refl h)
-  awaited_asks {b = true} {d = false} e w h = absurd (awaited_wrong (sym w ∙ e))
-  awaited_asks {b = false} e w h = absurd (awaited_wrong (sym w ∙ e))
+  awaited_asks {b = true} {d = true} x e w h = passed refl (passed refl h)
+  awaited_asks {b = true} {d = false} x e w h = absurd (awaited_wrong (sym w ∙ e))
+  awaited_asks {b = false} x e w h = absurd (awaited_wrong (sym w ∙ e))

@@ -1,5 +1,5 @@
 -- The parts that plans are made of: how a packet that comes is read, which passkey is shown, and what is asked. Of any type S of states.
-use Rattle.std.specs.Prelude.{ℕ, List, Option, Some, None, is_some, unwrap_or, Bool, cond, not, length, take, drop, eqb, ltb}
+use Rattle.std.specs.Prelude.{ℕ, List, Bool, cond, not, length, take, drop, eqb, ltb, Option, Some, None, is_some, unwrap_or, Result, Ok, Err}
 use Rattle.octets.specs.Octets.{flip, zeros}
 use Rattle.address.specs.declared.Address.{Address}
 use Rattle.address.specs.Identity.{decode_of as address_of}
@@ -8,10 +8,6 @@ use Rattle.features.specs.Features.{decode_of}
 use Rattle.features.specs.Bits.{secure_connections_bit}
 use Rattle.rounds.specs.Rounds.{in_range}
 use Rattle.frames.specs.Packets.{public_key_code, check_code, identity_address_code}
-use Rattle.protocol.specs.declared.Acceptance.{Acceptance}
-use Rattle.protocol.specs.declared.Acceptance.TheVariants.{Accepted, Rejected}
-use Rattle.protocol.specs.declared.Configured.{Configured}
-use Rattle.protocol.specs.declared.Configured.TheVariants as C
 use Rattle.protocol.specs.declared.ConnectionEvent.{ConnectionEvent}
 use Rattle.protocol.specs.declared.Failure.{Failure}
 use Rattle.protocol.specs.declared.Failure.TheVariants as F
@@ -19,21 +15,19 @@ use Rattle.protocol.specs.declared.Question.{Question}
 use Rattle.protocol.specs.declared.QuestionKind.{QuestionKind}
 use Rattle.protocol.specs.declared.QuestionKind.TheVariants as Q
 use Rattle.protocol.specs.declared.Refusal.TheVariants as R
-use Rattle.protocol.specs.declared.Verdict.{Verdict}
-use Rattle.protocol.specs.declared.Verdict.TheVariants.{Awaited, Wrong}
 use Rattle.protocol.specs.Plan.{Plan, ends, draws_passkey, tests, refuses, fails, needs, nowhere}
 
 -- Features
 
 -- the tests of a peer's features, in their order
-abbrev tested : Option PairingFeatures → Acceptance
-tested None = Rejected F.InvalidParameters
+abbrev tested : Option PairingFeatures → Result PairingFeatures Failure
+tested None = Err F.InvalidParameters
 tested (Some f) =
     cond (secure_connections_bit f.authreq)
-    (cond (ltb f.keysize 16) (Rejected F.EncryptionKeySize) (Accepted f))
-    (Rejected F.AuthenticationRequirements)
+    (cond (ltb f.keysize 16) (Err F.EncryptionKeySize) (Ok f))
+    (Err F.AuthenticationRequirements)
 
-unfoldable pub accept_of : List ℕ → Acceptance
+unfoldable pub accept_of : List ℕ → Result PairingFeatures Failure
 accept_of body = tested (decode_of body)
 
 -- What comes
@@ -52,17 +46,17 @@ key_x body = flip (take 32 body)
 abbrev pub key_y : List ℕ → List ℕ
 key_y body = flip (drop 32 body)
 
--- the tests of a code and of a length, in this order
-unfoldable pub verdict_of : Bool → Bool → Failure → Verdict
-verdict_of code size f = cond code (cond size Awaited (Wrong f)) (Wrong F.InvalidState)
+-- the tests of a code and of a length, in this order, and what is read where they pass
+unfoldable pub verdict_of : {A : Type 0} → Bool → Bool → Failure → A → Result A Failure
+verdict_of code size f x = cond code (cond size (Ok x) (Err f)) (Err F.InvalidState)
 
 module _ {S : Type 0} where
   -- features by the code k; an event is raised first, whether or not they are acceptable
-  abbrev pub accepting : ConnectionEvent → Acceptance → (PairingFeatures → Plan S) → Plan S
-  accepting e (Rejected f) p = ends (fails e f)
-  accepting e (Accepted x) p = p x
+  abbrev pub accepting : Option ConnectionEvent → Result PairingFeatures Failure → (PairingFeatures → Plan S) → Plan S
+  accepting e (Err f) p = ends (fails e f)
+  accepting e (Ok x) p = p x
 
-  abbrev pub features : ℕ → ConnectionEvent → ℕ → List ℕ → (PairingFeatures → Plan S) → Plan S
+  abbrev pub features : ℕ → Option ConnectionEvent → ℕ → List ℕ → (PairingFeatures → Plan S) → Plan S
   features k e code body p = needs (eqb code k) F.InvalidState (accepting e (accept_of body) p)
 
   -- a public key
@@ -88,9 +82,9 @@ module _ {S : Type 0} where
       needs (eqb code identity_address_code) F.InvalidState (needs (is_some (address_of body)) F.InvalidValue (p (unwrap_or (address_of body) nowhere)))
 
   -- the passkey that is shown: the configured one, or the drawn one, which the call is refused for where it is out of range
-  abbrev pub shown : Configured → (ℕ → Plan S) → Plan S
-  shown C.Nothing p = draws_passkey λ n. tests (in_range n) (p n) (ends (refuses R.PasskeyRange))
-  shown (C.Passkey n) p = p n
+  abbrev pub shown : Option ℕ → (ℕ → Plan S) → Plan S
+  shown None p = draws_passkey λ n. tests (in_range n) (p n) (ends (refuses R.PasskeyRange))
+  shown (Some n) p = p n
 
 -- What is asked. What a kind of question doesn't take is zero
 

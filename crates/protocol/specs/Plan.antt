@@ -1,15 +1,11 @@
 -- A step as a plan: what it asks and draws, in order, and how it ends. Of any type S of states.
-use Rattle.std.specs.Prelude.{ℕ, ◌≡◌, List, [], ◌∷◌, Bool, true, false, cond}
+use Rattle.std.specs.Prelude.{ℕ, ◌≡◌, List, [], ◌∷◌, Bool, true, false, cond, Option, None}
 use Rattle.octets.specs.Octets.{zeros}
 use Rattle.address.specs.declared.Address.{Address}
 use Rattle.address.specs.declared.AddressKind.TheVariants.{Public}
-use Rattle.method.specs.declared.SecurityLevel.TheVariants.{NoEncryption}
 use Rattle.frames.specs.Packets.{Packet}
 use Rattle.protocol.specs.declared.Action.{Action}
-use Rattle.protocol.specs.declared.ActionKind.TheVariants as K
-use Rattle.protocol.specs.declared.Bond.{Bond}
 use Rattle.protocol.specs.declared.ConnectionEvent.{ConnectionEvent}
-use Rattle.protocol.specs.declared.ConnectionEvent.TheVariants as E
 use Rattle.protocol.specs.declared.Failure.{Failure}
 use Rattle.protocol.specs.declared.Failure.TheVariants as F
 use Rattle.protocol.specs.declared.Question.{Question}
@@ -20,20 +16,14 @@ use Rattle.protocol.specs.declared.Supplied.{Supplied}
 
 -- Ends
 
--- a call is refused; it fails, after an event; or it moves on to a state, with packets to send, two events in order, and an action
+-- a call is refused; it fails, after an event or none; or it moves on to a state, with packets to send, at most two events in order, and at most one action
 pub data Ending (S : Type 0) : Type 0 where
   refuses : Refusal → Ending S
-  fails : ConnectionEvent → Failure → Ending S
-  moves : S → List Packet → ConnectionEvent → ConnectionEvent → Action → Ending S
+  fails : Option ConnectionEvent → Failure → Ending S
+  moves : S → List Packet → Option ConnectionEvent → Option ConnectionEvent → Option Action → Ending S
 
 abbrev pub nowhere : Address
 nowhere = record { kind = Public; octets = zeros 6 }
-
-abbrev pub no_bond : Bond
-no_bond = record { ltk = zeros 16; level = NoEncryption; address = nowhere; irk = zeros 16 }
-
-abbrev pub no_action : Action
-no_action = record { kind = K.Nothing; bond = no_bond }
 
 -- Plans
 
@@ -58,16 +48,16 @@ pub data Plan (S : Type 0) : Type 0 where
 
 module _ {S : Type 0} where
   -- goes on with at most one event, and nothing to do
-  abbrev pub goes : S → List Packet → ConnectionEvent → Ending S
-  goes s ps e = moves s ps E.Nothing e no_action
+  abbrev pub goes : S → List Packet → Option ConnectionEvent → Ending S
+  goes s ps e = moves s ps None e None
 
   -- anything not listed
   abbrev pub unlisted : Plan S
-  unlisted = ends (fails E.Nothing F.InvalidState)
+  unlisted = ends (fails None F.InvalidState)
 
   -- the rest where the test passes, the failure where it doesn't
   abbrev pub needs : Bool → Failure → Plan S → Plan S
-  needs b f p = tests b p (ends (fails E.Nothing f))
+  needs b f p = tests b p (ends (fails None f))
 
 -- The caller's answers
 

@@ -1,5 +1,5 @@
 -- A role is what it plans for each input. Step, questions, run and history are the same for every role.
-use Rattle.std.specs.Prelude.{ℕ, ◌<◌, List, [], ◌∷◌, Bool, true, false, cond, ltb}
+use Rattle.std.specs.Prelude.{ℕ, ◌<◌, List, [], ◌∷◌, Bool, true, false, cond, ltb, Option, Some, None, Result, Ok, Err, ⊤}
 use Rattle.rounds.specs.Rounds.{in_range}
 use Rattle.frames.specs.Packets.{Packet}
 use Rattle.protocol.specs.declared.Action.{Action}
@@ -11,20 +11,18 @@ use Rattle.protocol.specs.declared.Event.{Event}
 use Rattle.protocol.specs.declared.Event.TheVariants as I
 use Rattle.protocol.specs.declared.Failure.{Failure}
 use Rattle.protocol.specs.declared.Failure.TheVariants as F
-use Rattle.protocol.specs.declared.Gate.{Gate}
-use Rattle.protocol.specs.declared.Gate.TheVariants.{Open, Shut}
-use Rattle.protocol.specs.declared.OobData.{OobData}
 use Rattle.protocol.specs.declared.Question.{Question}
+use Rattle.protocol.specs.declared.Refusal.{Refusal}
 use Rattle.protocol.specs.declared.Refusal.TheVariants as R
 use Rattle.protocol.specs.declared.Supplied.{Supplied}
-use Rattle.protocol.specs.Plan.{Plan, Ending, ends, tests, refuses, fails, moves, no_action, runs, asked}
+use Rattle.protocol.specs.Plan.{Plan, Ending, ends, tests, refuses, fails, moves, runs, asked}
 
 -- Calls
 
--- what a call brings: a command's octets, or an event with the out-of-band values beside it
+-- what a call brings: a command's octets, or an event
 pub data Input : Type 0 where
   command : List ℕ → Input
-  event : Event → OobData → Input
+  event : Event → Input
 
 -- a call: an input, what is supplied with it, and the outbox's length
 pub record Call : Type 0 where
@@ -35,19 +33,19 @@ pub record Call : Type 0 where
 -- the passkey of an event is in range
 abbrev pub ranged : Input → Bool
 ranged (command cmd) = true
-ranged (event (I.LinkEncryptedResult ok) o) = true
-ranged (event I.PassKeyConfirm o) = true
-ranged (event I.PassKeyCancel o) = true
-ranged (event (I.PassKeyInput p) o) = in_range p
-ranged (event I.OobDataReceived o) = true
+ranged (event (I.LinkEncryptedResult ok)) = true
+ranged (event I.PassKeyConfirm) = true
+ranged (event I.PassKeyCancel) = true
+ranged (event (I.PassKeyInput p)) = in_range p
+ranged (event (I.OobDataReceived o)) = true
 
 -- the longest step sends a public key and a confirm
 abbrev pub enough : ℕ
 enough = 90
 
 -- R1, R2 and R3, in this order, by their tests: finished, the outbox too short, the passkey in range
-unfoldable pub gate_of : Bool → Bool → Bool → Gate
-gate_of finished short range = cond finished (Shut R.Finished) (cond short (Shut R.OutboxShort) (cond range Open (Shut R.PasskeyRange)))
+unfoldable pub gate_of : Bool → Bool → Bool → Result ⊤ Refusal
+gate_of finished short range = cond finished (Err R.Finished) (cond short (Err R.OutboxShort) (cond range (Ok tt) (Err R.PasskeyRange)))
 
 -- Roles
 
@@ -57,29 +55,29 @@ pub record Role (S : Type 0) : Type 0 where
   pub failed : S → Failure → S
   -- the plans for a command's code and payload, and for an event
   pub commanded : S → ℕ → List ℕ → Plan S
-  pub raised : S → Event → OobData → Plan S
+  pub raised : S → Event → Plan S
 
 -- what a call comes to
 pub record Outcome (S : Type 0) : Type 0 where
   pub next : S
   pub packets : List Packet
-  pub first : ConnectionEvent
-  pub second : ConnectionEvent
-  pub action : Action
+  pub first : Option ConnectionEvent
+  pub second : Option ConnectionEvent
+  pub action : Option Action
   pub answer : Answer
 
 module _ {S : Type 0} (role : Role S) where
   -- a refusal changes nothing; a failure sends nothing, does nothing, and raises PairingFailed last
   abbrev pub said : S → Ending S → Outcome S
-  said m (refuses r) = record { next = m; packets = []; first = E.Nothing; second = E.Nothing; action = no_action; answer = A.Refused r }
-  said m (fails e f) = record { next = role.failed m f; packets = []; first = e; second = E.PairingFailed f; action = no_action; answer = A.Failed f }
+  said m (refuses r) = record { next = m; packets = []; first = None; second = None; action = None; answer = A.Refused r }
+  said m (fails e f) = record { next = role.failed m f; packets = []; first = e; second = Some (E.PairingFailed f); action = None; answer = A.Failed f }
   said m (moves s ps e e' a) = record { next = s; packets = ps; first = e; second = e'; action = a; answer = A.Taken }
 
   -- an empty command fails
   abbrev pub taking : S → Input → Plan S
-  taking m (command []) = ends (fails E.Nothing F.InvalidParameters)
+  taking m (command []) = ends (fails None F.InvalidParameters)
   taking m (command (code ∷ body)) = role.commanded m code body
-  taking m (event e o) = role.raised m e o
+  taking m (event e) = role.raised m e
 
   -- R1, R2 and R3, in this order, before the plan. (A drawn passkey is tested where it is drawn)
   abbrev pub plan : S → Input → ℕ → Plan S

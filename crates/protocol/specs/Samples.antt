@@ -1,5 +1,5 @@
 -- What stands in this crate, a second time, by samples: what is made here, and beside it what the scope and Part H say that it is. One table.
-use Rattle.std.specs.Prelude.{ℕ, List, [], ◌∷◌, ◌++◌, map, reverse, Bool, true, false, cond}
+use Rattle.std.specs.Prelude.{ℕ, List, [], ◌∷◌, ◌++◌, map, reverse, Bool, true, false, cond, Option, Some, None, Result, Ok, Err}
 use Rattle.octets.specs.Octets.{zeros}
 use Rattle.features.specs.declared.IoCapabilities.TheVariants.{KeyboardOnly}
 use Rattle.features.specs.declared.UseOutOfBand.TheVariants.{Present}
@@ -8,13 +8,13 @@ use Rattle.address.specs.Identity.{kind_number}
 use Rattle.method.specs.declared.SecurityLevel.TheVariants.{Encrypted}
 use Rattle.frames.specs.Packets.{Packet, pairing_random}
 use Rattle.protocol.specs.declared.Action.{Action}
-use Rattle.protocol.specs.declared.ActionKind.TheVariants as K
+use Rattle.protocol.specs.declared.Action.TheVariants as X
 use Rattle.protocol.specs.declared.Answer.{Answer}
 use Rattle.protocol.specs.declared.Answer.TheVariants as A
-use Rattle.protocol.specs.declared.Configured.TheVariants as C
 use Rattle.protocol.specs.declared.ConnectionEvent.{ConnectionEvent}
 use Rattle.protocol.specs.declared.ConnectionEvent.TheVariants as E
 use Rattle.protocol.specs.declared.Event.TheVariants as I
+use Rattle.protocol.specs.declared.Failure.{Failure}
 use Rattle.protocol.specs.declared.Failure.TheVariants as F
 use Rattle.protocol.specs.declared.Given.{Given}
 use Rattle.protocol.specs.declared.Question.{Question}
@@ -23,8 +23,6 @@ use Rattle.protocol.specs.declared.Refusal.TheVariants as R
 use Rattle.protocol.specs.declared.Secrets.{Secrets}
 use Rattle.protocol.specs.declared.Setup.{Setup}
 use Rattle.protocol.specs.declared.Supplied.{Supplied}
-use Rattle.protocol.specs.declared.Verdict.{Verdict}
-use Rattle.protocol.specs.declared.Verdict.TheVariants.{Awaited, Wrong}
 use Rattle.protocol.specs.Next.{known}
 use Rattle.protocol.specs.Numbers.{failure_number, refusal_number}
 use Rattle.protocol.specs.Plan.{Plan, Ending, ends, refuses, fails, moves, goes, unlisted, reply, runs}
@@ -32,7 +30,7 @@ use Rattle.protocol.specs.Parts as Parts
 use Rattle.protocol.specs.Parts.{verdict_of, no_question, ask_dh, ask_f4, ask_f5, ask_f6, ask_g2}
 use Rattle.protocol.specs.Role.{Role, Input, command, event, Outcome, said as said_of, plan}
 use Rattle.protocol.specs.Exchanged.{fresh, set_confirm, set_nonces, set_peer_nonce, set_own_nonce, set_secrets, set_passkey, set_held, own_confirm, peer_confirm}
-use Rattle.protocol.specs.Values.{from, none, public, random, nobody, our_x, our_irk, peer_x, dh_key, confirm, peer_nonce, our_nonce, peer_secret, our_secret, check, new_key, our_confirm, mac_key, link_key, our_check, new_x, new_y, value, question, f4, secrets, secret, bond, unbonded, does, idle, setup, handing, had}
+use Rattle.protocol.specs.Values.{from, none, public, random, nobody, our_x, our_irk, peer_x, dh_key, confirm, peer_nonce, our_nonce, peer_secret, our_secret, check, new_key, our_confirm, mac_key, link_key, our_check, new_x, new_y, value, question, f4, secrets, secret, bond, setup, handing, had}
 
 -- What is shown: a question, what is kept, octets or numbers, a number of the scope, a verdict, an end, an outcome
 pub data Shown : Type 0 where
@@ -40,7 +38,7 @@ pub data Shown : Type 0 where
   kept : Secrets → Shown
   list : List ℕ → Shown
   number : ℕ → Shown
-  verdict : Verdict → Shown
+  verdict : Result (List ℕ) Failure → Shown
   ended : Ending (List ℕ) → Shown
   came : Outcome (List ℕ) → Shown
 
@@ -58,7 +56,7 @@ said (row x y) = y
 
 -- our side, and what is supplied
 abbrev our : Setup
-our = setup KeyboardOnly Present true C.Nothing our_irk unbonded
+our = setup KeyboardOnly Present true None our_irk None
 
 abbrev given : Supplied
 given = handing true 654321
@@ -73,7 +71,7 @@ abbrev reads : Supplied → Plan (List ℕ) → Shown
 reads a p = end (runs a p)
 
 abbrev got : List ℕ → Plan (List ℕ)
-got octets = ends (goes octets [] E.Nothing)
+got octets = ends (goes octets [] None)
 
 -- a payload behind a code, where 0x0C is the key's, 0x03 a value's, 0x0D the check's, 0x09 the identity address's and 0x01 the features'
 abbrev key : ℕ → List ℕ → Shown
@@ -95,7 +93,7 @@ abbrev identity : ℕ → List ℕ → Shown
 identity code body = reads given (Parts.identity code body λ a. got (kind_number a.kind ∷ a.octets))
 
 abbrev features : ℕ → List ℕ → Shown
-features code body = reads given (Parts.features 0x01 E.BondLost code body λ f. got (encode_of f))
+features code body = reads given (Parts.features 0x01 (Some E.BondLost) code body λ f. got (encode_of f))
 
 -- the answers given so far, and 1 for each kind of question that has its answer, in the order of the kinds
 abbrev answers : Bool → Bool → Bool → Bool → Bool → Bool → Bool → Shown
@@ -105,17 +103,17 @@ answers dh ownconfirm peerconfirm g2 f5 peercheck owncheck =
 
 -- a role that reads whatever comes, and is never finished; what an input to it comes to, with so many octets of outbox
 abbrev reader : Role (List ℕ)
-reader = record { finished = λ m. false; failed = λ m f. failure_number f ∷ m; commanded = λ m code body. got (code ∷ body); raised = λ m e o. got m }
+reader = record { finished = λ m. false; failed = λ m f. failure_number f ∷ m; commanded = λ m code body. got (code ∷ body); raised = λ m e. got m }
 
 abbrev plays : Input → ℕ → Shown
 plays i room = reads given (plan reader (7 ∷ []) i room)
 
 -- an outcome by position, and a passkey that is typed
-abbrev outcome : List ℕ → List Packet → ConnectionEvent → ConnectionEvent → Action → Answer → Shown
+abbrev outcome : List ℕ → List Packet → Option ConnectionEvent → Option ConnectionEvent → Option Action → Answer → Shown
 outcome next packets first second action answer = came (record { next = next; packets = packets; first = first; second = second; action = action; answer = answer })
 
 abbrev types : ℕ → Input
-types p = event (I.PassKeyInput p) (record { ownrandom = none; peerrandom = none; peerconfirm = none })
+types p = event (I.PassKeyInput p)
 
 unfoldable pub rows : List Row
 rows =
@@ -197,23 +195,23 @@ rows =
     ∷ row (features 0x01 (0x04 ∷ 0x01 ∷ 0xA5 ∷ 0x0F ∷ 0x06 ∷ 0x07 ∷ [])) (number 35)
     ∷ row (features 0x01 (0x04 ∷ 0x01 ∷ 0xAD ∷ 0x0F ∷ 0x06 ∷ 0x07 ∷ [])) (number 38)
     -- an end with one event and nothing to do; what is not listed; a failure after an event
-    ∷ row (ended (goes value [] E.OobRequest)) (ended (moves value [] E.Nothing E.OobRequest idle))
-    ∷ row (ended (runs given unlisted)) (ended (fails E.Nothing F.InvalidState))
-    ∷ row (ended (runs given (Parts.features 0x01 E.BondLost 0x01 (from 0 7) λ f. got []))) (ended (fails E.BondLost F.InvalidParameters))
+    ∷ row (ended (goes value [] (Some E.OobRequest))) (ended (moves value [] None (Some E.OobRequest) None))
+    ∷ row (ended (runs given unlisted)) (ended (fails None F.InvalidState))
+    ∷ row (ended (runs given (Parts.features 0x01 (Some E.BondLost) 0x01 (from 0 7) λ f. got []))) (ended (fails (Some E.BondLost) F.InvalidParameters))
     -- a refusal changes nothing; a failure sends nothing, does nothing and raises PairingFailed last; a call that goes on does as its end says
-    ∷ row (came (said_of reader value (refuses R.OutboxShort))) (outcome value [] E.Nothing E.Nothing idle (A.Refused R.OutboxShort))
-    ∷ row (came (said_of reader value (fails E.BondLost F.Timeout))) (outcome (18 ∷ value) [] E.BondLost (E.PairingFailed F.Timeout) idle (A.Failed F.Timeout))
-    ∷ row (came (said_of reader value (moves check (pairing_random mac_key ∷ []) E.BondLost E.OobRequest (does K.StoreBond (bond link_key Encrypted nobody none)))))
-    (outcome check (pairing_random mac_key ∷ []) E.BondLost E.OobRequest (does K.StoreBond (bond link_key Encrypted nobody none)) A.Taken)
+    ∷ row (came (said_of reader value (refuses R.OutboxShort))) (outcome value [] None None None (A.Refused R.OutboxShort))
+    ∷ row (came (said_of reader value (fails (Some E.BondLost) F.Timeout))) (outcome (18 ∷ value) [] (Some E.BondLost) (Some (E.PairingFailed F.Timeout)) None (A.Failed F.Timeout))
+    ∷ row (came (said_of reader value (moves check (pairing_random mac_key ∷ []) (Some E.BondLost) (Some E.OobRequest) (Some (X.StoreBond (bond link_key Encrypted nobody none))))))
+    (outcome check (pairing_random mac_key ∷ []) (Some E.BondLost) (Some E.OobRequest) (Some (X.StoreBond (bond link_key Encrypted nobody none))) A.Taken)
     -- the code is tested before the length
-    ∷ row (verdict (verdict_of true true F.InvalidValue)) (verdict Awaited)
-    ∷ row (verdict (verdict_of true false F.InvalidValue)) (verdict (Wrong F.InvalidValue))
-    ∷ row (verdict (verdict_of false true F.InvalidValue)) (verdict (Wrong F.InvalidState))
-    ∷ row (verdict (verdict_of false false F.InvalidValue)) (verdict (Wrong F.InvalidState))
+    ∷ row (verdict (verdict_of true true F.InvalidValue value)) (verdict (Ok value))
+    ∷ row (verdict (verdict_of true false F.InvalidValue value)) (verdict (Err F.InvalidValue))
+    ∷ row (verdict (verdict_of false true F.InvalidValue value)) (verdict (Err F.InvalidState))
+    ∷ row (verdict (verdict_of false false F.InvalidValue value)) (verdict (Err F.InvalidState))
     -- the passkey that is shown: the configured one; or the drawn one, R3 above 999,999
-    ∷ row (reads given (Parts.shown (C.Passkey 111111) λ p. got (p ∷ []))) (list (111111 ∷ []))
-    ∷ row (reads given (Parts.shown C.Nothing λ p. got (p ∷ []))) (list (654321 ∷ []))
-    ∷ row (reads (handing true 1000000) (Parts.shown C.Nothing λ p. got (p ∷ []))) (number 3)
+    ∷ row (reads given (Parts.shown (Some 111111) λ p. got (p ∷ []))) (list (111111 ∷ []))
+    ∷ row (reads given (Parts.shown None λ p. got (p ∷ []))) (list (654321 ∷ []))
+    ∷ row (reads (handing true 1000000) (Parts.shown None λ p. got (p ∷ []))) (number 3)
     -- The numbers
     ∷ row
     (list (map failure_number (F.InvalidState ∷ F.InvalidValue ∷ F.Timeout ∷ F.PasskeyEntryFailed ∷ F.AuthenticationRequirements ∷ F.ConfirmValueFailed

@@ -1,19 +1,13 @@
 -- Sample values, for the tables of this crate and of the roles. Each counts up from a first octet of its own: no two are alike, so that one that is
 -- exchanged, left out or not turned round shows. And what is made of them, by position.
-use Rattle.std.specs.Prelude.{ℕ, zero, suc, ◌+◌, List, [], ◌∷◌, Bool, true, false}
+use Rattle.std.specs.Prelude.{ℕ, zero, suc, ◌+◌, List, [], ◌∷◌, Bool, Option}
 use Rattle.octets.specs.Octets.{zeros}
 use Rattle.address.specs.declared.Address.{Address}
 use Rattle.address.specs.declared.AddressKind.TheVariants.{Public, Random}
 use Rattle.features.specs.declared.IoCapabilities.{IoCapabilities}
 use Rattle.features.specs.declared.UseOutOfBand.{UseOutOfBand}
 use Rattle.method.specs.declared.SecurityLevel.{SecurityLevel}
-use Rattle.method.specs.declared.SecurityLevel.TheVariants.{NoEncryption}
-use Rattle.protocol.specs.declared.Action.{Action}
-use Rattle.protocol.specs.declared.ActionKind.{ActionKind}
-use Rattle.protocol.specs.declared.ActionKind.TheVariants as K
 use Rattle.protocol.specs.declared.Bond.{Bond}
-use Rattle.protocol.specs.declared.Configured.{Configured}
-use Rattle.protocol.specs.declared.MaybeBond.{MaybeBond}
 use Rattle.protocol.specs.declared.Question.{Question}
 use Rattle.protocol.specs.declared.QuestionKind.{QuestionKind}
 use Rattle.protocol.specs.declared.QuestionKind.TheVariants as Q
@@ -158,21 +152,8 @@ secret a b c = 0 ∷ 0 ∷ 0 ∷ 0 ∷ 0 ∷ 0 ∷ 0 ∷ 0 ∷ 0 ∷ 0 ∷ 0 ∷
 abbrev pub bond : List ℕ → SecurityLevel → Address → List ℕ → Bond
 bond ltk level address irk = record { ltk = ltk; level = level; address = address; irk = irk }
 
-abbrev pub there : Bond → MaybeBond
-there b = record { there = true; bond = b }
-
-abbrev pub unbonded : MaybeBond
-unbonded = record { there = false; bond = bond none NoEncryption nobody none }
-
--- an action, and none
-abbrev pub does : ActionKind → Bond → Action
-does kind b = record { kind = kind; bond = b }
-
-abbrev pub idle : Action
-idle = does K.Nothing (bond none NoEncryption nobody none)
-
 -- our side: IO, OOB, whether it asks bonding, the configured passkey, the IRK and the known bond
-abbrev pub setup : IoCapabilities → UseOutOfBand → Bool → Configured → List ℕ → MaybeBond → Setup
+abbrev pub setup : IoCapabilities → UseOutOfBand → Bool → Option ℕ → List ℕ → Option Bond → Setup
 setup io oob bonding passkey irk known =
     record { io = io; oob = oob; bonding = bonding; passkey = passkey; keyx = our_x; keyy = our_y; irk = irk; own = our_address; identity = our_identity; peer = peer_address; known = known }
 

@@ -3,14 +3,14 @@
 #![tactic(auto)]
 
 use address::Address;
-use features::{IoCapabilities, PairingFeatures, UseOutOfBand};
+use features::{IoCapabilities, UseOutOfBand};
 use method::SecurityLevel;
 
 // The longest step sends a public key and a confirm: no outbox is shorter.
 pub const ENOUGH: usize = 90;
 
 // Why a pairing failed.
-#[derive(Clone, Copy)]
+#[derive(Clone, Copy, Debug, PartialEq, Eq)]
 pub enum Failure {
     InvalidState,
     InvalidValue,
@@ -26,52 +26,31 @@ pub enum Failure {
 }
 
 // Why a call was refused. A refused call changes nothing.
-#[derive(Clone, Copy)]
+#[derive(Clone, Copy, Debug, PartialEq, Eq)]
 pub enum Refusal {
     Finished,
     OutboxShort,
     PasskeyRange,
 }
 
-#[derive(Clone, Copy)]
+#[derive(Clone, Copy, Debug, PartialEq, Eq)]
 pub enum Answer {
     Taken,
     Failed(Failure),
     Refused(Refusal),
 }
 
-// Whether a call is let in, or why it is refused.
-#[derive(Clone, Copy)]
-pub enum Gate {
-    Open,
-    Shut(Refusal),
-}
-
-// Whether a command is the one that is awaited, or how the pairing fails for it.
-#[derive(Clone, Copy)]
-pub enum Verdict {
-    Awaited,
-    Wrong(Failure),
-}
-
-// Whether a peer's features are acceptable.
-#[derive(Clone, Copy)]
-pub enum Acceptance {
-    Accepted(PairingFeatures),
-    Rejected(Failure),
-}
-
-// What may come in beside a command. The values of OobDataReceived stand beside it, in `OobData`.
+// What may come in beside a command.
 #[derive(Clone, Copy)]
 pub enum Event {
     LinkEncryptedResult(bool),
     PassKeyConfirm,
     PassKeyCancel,
     PassKeyInput(u32),
-    OobDataReceived,
+    OobDataReceived(OobData),
 }
 
-// The out-of-band values of OobDataReceived: the random that we gave out, and the peer's random and confirm.
+// The out-of-band values: the random that we gave out, and the peer's random and confirm.
 #[derive(Clone, Copy)]
 pub struct OobData {
     pub ownrandom: [u8; 16],
@@ -82,7 +61,6 @@ pub struct OobData {
 // What the user is told. PairingComplete has the level, and whether the bond is reported: it is then the state's.
 #[derive(Clone, Copy)]
 pub enum ConnectionEvent {
-    Nothing,
     BondLost,
     OobRequest,
     PassKeyDisplay(u32),
@@ -92,18 +70,11 @@ pub enum ConnectionEvent {
     PairingFailed(Failure),
 }
 
-#[derive(Clone, Copy)]
-pub enum ActionKind {
-    Nothing,
-    EnableEncryption,
-    StoreBond,
-}
-
 // What the box is to do. Encryption is enabled with the bond's link key and level.
 #[derive(Clone, Copy)]
-pub struct Action {
-    pub kind: ActionKind,
-    pub bond: Bond,
+pub enum Action {
+    EnableEncryption(Bond),
+    StoreBond(Bond),
 }
 
 // No IRK is sixteen zeros.
@@ -115,34 +86,21 @@ pub struct Bond {
     pub irk: [u8; 16],
 }
 
-// A bond, or none: then its values say nothing.
-#[derive(Clone, Copy)]
-pub struct MaybeBond {
-    pub there: bool,
-    pub bond: Bond,
-}
-
-#[derive(Clone, Copy)]
-pub enum Configured {
-    Nothing,
-    Passkey(u32),
-}
-
 // What a side is. `keyx` and `keyy` are its public key, `own` and `peer` the addresses of the connection, `identity` is the address that
-// its identity key goes with, `known` the bond with this peer.
+// its identity key goes with, `known` the bond with this peer, `passkey` the one that is configured.
 #[derive(Clone, Copy)]
 pub struct Setup {
     pub io: IoCapabilities,
     pub oob: UseOutOfBand,
     pub bonding: bool,
-    pub passkey: Configured,
+    pub passkey: Option<u32>,
     pub keyx: [u8; 32],
     pub keyy: [u8; 32],
     pub irk: [u8; 16],
     pub own: Address,
     pub identity: Address,
     pub peer: Address,
-    pub known: MaybeBond,
+    pub known: Option<Bond>,
 }
 
 // What the two sides have exchanged. `confirm` is the peer's; `held` is an early confirm or DHKey check.
