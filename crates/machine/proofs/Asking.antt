@@ -1,5 +1,6 @@
 -- What a call asks: DH alone with R3 of a drawn passkey, nothing after a failure; the IO triples of f6; and the next question reads only answers that were
 -- given. (R1 and R3 of an event ask nothing, as in any role.) Assumes nothing.
+use Rattle.std.specs.Prelude.{Ok}
 use Prim.Native.Nat.{ℕ, ◌≤◌}
 use mathlib.Core.Path.{◌≡◌, refl}
 use mathlib.Core.List.{List, [], ◌∷◌, Memᴰ}
@@ -12,7 +13,6 @@ use Rattle.features.specs.declared.PairingFeatures.{PairingFeatures}
 use Rattle.features.specs.Features.{io_cap_of}
 use Rattle.features.proofs.Features.{encode_decode}
 use Rattle.frames.specs.Packets.{request_code, public_key_code, check_code, pairing_response, frame, framed, channel}
-use Rattle.protocol.specs.declared.Acceptance.TheVariants.{Accepted}
 use Rattle.protocol.specs.declared.Answer.TheVariants as A
 use Rattle.protocol.specs.declared.Failure.{Failure}
 use Rattle.protocol.specs.declared.Given.{Given}
@@ -93,16 +93,16 @@ module _ (m : State) (i : Input) (a : Supplied) (q : Question) (asks : Memᴰ q 
   triple_as_sent k = rw k at triple
 
 -- those features are a request's, and these went in the response to it
-pub request_kept : (m : State) (a : Supplied) (n : ℕ) (body : List ℕ) (f : PairingFeatures) → m.phase ≡ P.WaitingPairingRequest → enough ≤ n → accept_of body ≡ Accepted f
+pub request_kept : (m : State) (a : Supplied) (n : ℕ) (body : List ℕ) (f : PairingFeatures) → m.phase ≡ P.WaitingPairingRequest → enough ≤ n → accept_of body ≡ Ok f
     → let o = step responder m (bring (command (request_code ∷ body)) a n) in (o.next.features ≡ f) × (o.packets ≡ pairing_response (own_features m.setup f) ∷ [])
 unfolding step runs
 request_kept m a n body f p h e = rw (p, le-ltb n enough h, e) (refl, refl)
 
 -- octet for octet: AuthReq with all its bits, OOB, IO
-received : {body : List ℕ} {f : PairingFeatures} → Heard body (Accepted f) → io_cap_of f ≡ get_or body 2 0 ∷ get_or body 1 0 ∷ get_or body 0 0 ∷ []
+received : {body : List ℕ} {f : PairingFeatures} → Heard body (Ok f) → io_cap_of f ≡ get_or body 2 0 ∷ get_or body 1 0 ∷ get_or body 0 0 ∷ []
 received {body} {f} (right e s k) = rw (← encode_decode body f e)
 
-pub octets_received : (body : List ℕ) (f : PairingFeatures) → accept_of body ≡ Accepted f → io_cap_of f ≡ get_or body 2 0 ∷ get_or body 1 0 ∷ get_or body 0 0 ∷ []
+pub octets_received : (body : List ℕ) (f : PairingFeatures) → accept_of body ≡ Ok f → io_cap_of f ≡ get_or body 2 0 ∷ get_or body 1 0 ∷ get_or body 0 0 ∷ []
 octets_received body f h = received (rw h at (heard body))
 
 pub octets_sent : (f : PairingFeatures) → let sent = framed channel (pairing_response f ∷ []) in io_cap_of f ≡ get_or sent 7 0 ∷ get_or sent 6 0 ∷ get_or sent 5 0 ∷ []

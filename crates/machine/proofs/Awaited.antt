@@ -1,4 +1,5 @@
 -- What each phase waits for: a call that brings it goes on by what is left of its plan, and any other is refused or fails. Assumes nothing.
+use Rattle.std.specs.Prelude.{Option, Some, None, unwrap_or, Result, Ok, Err}
 use Rattle.std.proofs.lemmas.Bool.{cond-true}
 use Prim.Native.Nat.{ℕ, ◌+◌, ◌≤◌, ◌<◌}
 use mathlib.Core.Path.{◌≡◌, refl, ap, ◌∙◌}
@@ -17,13 +18,8 @@ use Rattle.method.specs.declared.PairingMethod.TheVariants.{JustWorks, NumericCo
 use Rattle.method.specs.declared.PassKeyEntryAction.{PassKeyEntryAction}
 use Rattle.method.specs.declared.PassKeyEntryAction.TheVariants as W
 use Rattle.method.specs.Method.{method_of}
-use Rattle.std.specs.Prelude.{Some, None, unwrap_or}
 use Rattle.rounds.specs.Rounds.{after_of}
 use Rattle.frames.specs.Packets.{request_code, confirm_code, random_code, check_code, identity_information_code, pairing_random}
-use Rattle.protocol.specs.declared.Acceptance.{Acceptance}
-use Rattle.protocol.specs.declared.Acceptance.TheVariants.{Accepted, Rejected}
-use Rattle.protocol.specs.declared.Configured.{Configured}
-use Rattle.protocol.specs.declared.Configured.TheVariants as C
 use Rattle.protocol.specs.declared.ConnectionEvent.{ConnectionEvent}
 use Rattle.protocol.specs.declared.ConnectionEvent.TheVariants as E
 use Rattle.protocol.specs.declared.Event.{Event}
@@ -70,25 +66,25 @@ pub data Awaited (m : State) (c : Call) : Phase → Plan State → Type 0 where
   key : {w : List ℕ} → Key w c → Awaited m c P.WaitingPublicKey (begins m.method m (exchanged w c))
   compared : {w : List ℕ} → Value random_code w c → Awaited m c P.WaitingNumericComparisonRandom (compares m.method m (flip w))
   early_check : {w : List ℕ} → Value check_code w c
-      → Awaited m c (P.WaitingNumericComparisonResult false) (ends (goes (to m (P.WaitingNumericComparisonResult true) (set_held m.secrets (flip w))) [] E.Nothing))
+      → Awaited m c (P.WaitingNumericComparisonResult false) (ends (goes (to m (P.WaitingNumericComparisonResult true) (set_held m.secrets (flip w))) [] None))
   yes : Raises I.PassKeyConfirm c → Awaited m c (P.WaitingNumericComparisonResult false) (confirmed m false)
   yes_held : Raises I.PassKeyConfirm c → m.secrets.held ≡ c.supplied.peercheck
       → Awaited m c (P.WaitingNumericComparisonResult true) (ends (checked m c.supplied.ltk c.supplied.owncheck))
   early_confirm : {v : List ℕ} → Value confirm_code v c
-      → Awaited m c (P.WaitingPassKeyInput false) (ends (goes (to m (P.WaitingPassKeyInput true) (set_held m.secrets (flip v))) [] E.Nothing))
+      → Awaited m c (P.WaitingPassKeyInput false) (ends (goes (to m (P.WaitingPassKeyInput true) (set_held m.secrets (flip v))) [] None))
   passkey : {p : ℕ} → Typed p c → Awaited m c (P.WaitingPassKeyInput false) (typed m false p)
   passkey_held : {p : ℕ} → Typed p c → Awaited m c (P.WaitingPassKeyInput true) (typed m true p)
   confirm : {r : ℕ} {v : List ℕ} → Value confirm_code v c → Awaited m c (P.WaitingPassKeyEntryConfirm r) (confirming m m.secrets r (flip v))
   random : {r : ℕ} {w : List ℕ} → Matching m.secrets.confirm w c → Awaited m c (P.WaitingPassKeyEntryRandom r) (ends (matched m r (flip w)))
-  oob_data : (o : OobData) → c.input ≡ event I.OobDataReceived o → (absent o || same o.peerconfirm c.supplied.peerconfirm) ≡ true
+  oob_data : (o : OobData) → c.input ≡ event (I.OobDataReceived o) → (absent o || same o.peerconfirm c.supplied.peerconfirm) ≡ true
       → Awaited m c P.WaitingOobData (ends (received m o))
   oob_random : {w : List ℕ} → Value random_code w c → Awaited m c P.WaitingOobRandom
-      (ends (goes (to m P.WaitingDHKeyEa (set_nonces m.secrets (flip w) c.supplied.nonce)) (pairing_random c.supplied.nonce ∷ []) E.Nothing))
+      (ends (goes (to m P.WaitingDHKeyEa (set_nonces m.secrets (flip w) c.supplied.nonce)) (pairing_random c.supplied.nonce ∷ []) None))
   check : {w : List ℕ} → Value check_code w c → flip w ≡ c.supplied.peercheck
       → Awaited m c P.WaitingDHKeyEa (ends (checked m c.supplied.ltk c.supplied.owncheck))
   link : Encrypts c → Awaited m c P.WaitingLinkEncrypted (encrypting m)
   information : {w : List ℕ} → Value identity_information_code w c
-      → Awaited m c P.WaitingIdentitityInformation (ends (goes (at (bonded m (with_irk m.bond (flip w))) P.WaitingIdentitityAddressInformation) [] E.Nothing))
+      → Awaited m c P.WaitingIdentitityInformation (ends (goes (at (bonded m (with_irk m.bond (flip w))) P.WaitingIdentitityAddressInformation) [] None))
   address : {w : List ℕ} → Identity w c → Awaited m c P.WaitingIdentitityAddressInformation (ends (succeeds (addressed m (unwrap_or (address_of w) nowhere)) []))
 
 -- What is awaited goes on so
@@ -97,15 +93,15 @@ took : {m : State} {c : Call} {p : Phase} {q : Plan State} → Awaited m c p q �
     → runs c.supplied (plan responder m c.input c.room) ≡ runs c.supplied q
 unfolding runs
 took (request a) e n = rw (a.brings, e, n, a.says)
-took (bonded_link i) e n = rw (i.1, e, n)
+took (bonded_link i) e n = rw (i, e, n)
 took (key k) e n = rw (k.brings, e, n, k.whole) (cond-true _ _ _ k.valid)
 took (compared k) e n = rw (k.brings, e, n, k.whole)
 took (early_check k) e n = rw (k.brings, e, n, k.whole)
-took (yes i) e n = rw (i.1, e, n)
-took {c} (yes_held i s) e n = rw (i.1, e, n, s, same_refl c.supplied.peercheck)
+took (yes i) e n = rw (i, e, n)
+took {c} (yes_held i s) e n = rw (i, e, n, s, same_refl c.supplied.peercheck)
 took (early_confirm k) e n = rw (k.brings, e, n, k.whole)
-took (passkey t) e n = rw (t.brings.1, e, n, t.range)
-took (passkey_held t) e n = rw (t.brings.1, e, n, t.range)
+took (passkey t) e n = rw (t.brings, e, n, t.range)
+took (passkey_held t) e n = rw (t.brings, e, n, t.range)
 took (confirm k) e n = rw (k.brings, e, n, k.whole)
 took {c} (random k) e n = rw (k.random.brings, e, n, k.random.whole, k.equal, same_refl c.supplied.peerconfirm)
 took {c} (oob_data o i s) e n = rw (i, e, n) (go (absent o) (same o.peerconfirm c.supplied.peerconfirm) _ s)
@@ -115,7 +111,7 @@ took {c} (oob_data o i s) e n = rw (i, e, n) (go (absent o) (same o.peerconfirm 
     go false b y e = rw e
 took (oob_random k) e n = rw (k.brings, e, n, k.whole)
 took {c} (check k s) e n = rw (k.brings, e, n, k.whole, s, same_refl c.supplied.peercheck)
-took (link i) e n = rw (i.1, e, n)
+took (link i) e n = rw (i, e, n)
 took (information k) e n = rw (k.brings, e, n, k.whole)
 took (address k) e n = rw (k.brings, e, n, k.valid)
 
@@ -129,7 +125,7 @@ module _ {m : State} {c : Call} {p : Phase} {q : Plan State} (e : m.phase ≡ p)
 
 -- What holds of each refusal and each failure, and along what is left of a plan, holds of what any call comes to
 
-module _ (c : Call) (H : Ending State → Type 0) (stay : (r : Refusal) → H (refuses r)) (fail : (e : ConnectionEvent) (f : Failure) → H (fails e f)) (m : State) where
+module _ (c : Call) (H : Ending State → Type 0) (stay : (r : Refusal) → H (refuses r)) (fail : (e : Option ConnectionEvent) (f : Failure) → H (fails e f)) (m : State) where
   abbrev Holds : Plan State → Type 0
   Holds q = Along c.supplied H q
 
@@ -138,15 +134,15 @@ module _ (c : Call) (H : Ending State → Type 0) (stay : (r : Refusal) → H (r
     brought k e = i ∙ ap (λ x. command (x ∷ w)) (eqb-true code k e)
 
     valued : {X : Type 0} {f g : Failure} (k : ℕ) → (Value k w c → X)
-        → (eqb code k ≡ true → (is_value w ≡ true → X) × (is_value w ≡ false → H (fails E.Nothing f))) × (eqb code k ≡ false → H (fails E.Nothing g))
+        → (eqb code k ≡ true → (is_value w ≡ true → X) × (is_value w ≡ false → H (fails None f))) × (eqb code k ≡ false → H (fails None g))
     valued k g = (λ e. (λ l. g (record { brings = brought k e; whole = l }), λ l. fail _ _), λ e. fail _ _)
 
-    asked : (x : Acceptance) → accept_of w ≡ x → eqb code request_code ≡ true
+    asked : (x : Result PairingFeatures Failure) → accept_of w ≡ x → eqb code request_code ≡ true
         → ((f : PairingFeatures) → Request m.setup f (method_of SecureConnections f (own_features m.setup f)) c → H (responding m f))
         → Holds (accepting (lost m) x (λ f. ends (responding m f)))
     unfolding Along
-    asked (Rejected f) e j g = fail _ _
-    asked (Accepted f) e j g = g f (record { payload = w; brings = brought request_code j; says = e; chooses = refl })
+    asked (Err f) e j g = fail _ _
+    asked (Ok f) e j g = g f (record { payload = w; brings = brought request_code j; says = e; chooses = refl })
 
     on_command_lem : (p : Phase) → ((q : Plan State) → Awaited m c p q → Holds q) → Holds (on_command p m code w)
     unfolding Along
@@ -174,48 +170,47 @@ module _ (c : Call) (H : Ending State → Type 0) (stay : (r : Refusal) → H (r
     on_command_lem P.Success g = stay _
     on_command_lem (P.Error f) g = stay _
 
-  module _ (o : OobData) where
-    -- an event by its kind
-    by_event : (p : Phase) → ((ok : Bool) → c.input ≡ event (I.LinkEncryptedResult ok) o → Holds (on_event p m (I.LinkEncryptedResult ok) o))
-        → (c.input ≡ event I.PassKeyConfirm o → Holds (on_event p m I.PassKeyConfirm o)) → Holds (on_event p m I.PassKeyCancel o)
-        → ((n : ℕ) → Typed n c → Holds (on_event p m (I.PassKeyInput n) o)) → (c.input ≡ event I.OobDataReceived o → Holds (on_event p m I.OobDataReceived o))
-        → (e : Event) → c.input ≡ event e o → ranged (event e o) ≡ true → Holds (on_event p m e o)
-    by_event p a b d f g (I.LinkEncryptedResult ok) i r = a ok i
-    by_event p a b d f g I.PassKeyConfirm i r = b i
-    by_event p a b d f g I.PassKeyCancel i r = d
-    by_event p a b d f g (I.PassKeyInput n) i r = f n (record { brings = (o, i); range = r })
-    by_event p a b d f g I.OobDataReceived i r = g i
+  -- an event by its kind
+  by_event : (p : Phase) → ((ok : Bool) → c.input ≡ event (I.LinkEncryptedResult ok) → Holds (on_event p m (I.LinkEncryptedResult ok)))
+      → (c.input ≡ event I.PassKeyConfirm → Holds (on_event p m I.PassKeyConfirm)) → Holds (on_event p m I.PassKeyCancel)
+      → ((n : ℕ) → Typed n c → Holds (on_event p m (I.PassKeyInput n))) → ((o : OobData) → c.input ≡ event (I.OobDataReceived o) → Holds (on_event p m (I.OobDataReceived o)))
+      → (e : Event) → c.input ≡ event e → ranged (event e) ≡ true → Holds (on_event p m e)
+  by_event p a b d f g (I.LinkEncryptedResult ok) i r = a ok i
+  by_event p a b d f g I.PassKeyConfirm i r = b i
+  by_event p a b d f g I.PassKeyCancel i r = d
+  by_event p a b d f g (I.PassKeyInput n) i r = f n (record { brings = i; range = r })
+  by_event p a b d f g (I.OobDataReceived o) i r = g o i
 
-    on_event_lem : (p : Phase) → ((q : Plan State) → Awaited m c p q → Holds q) → (e : Event) → c.input ≡ event e o → ranged (event e o) ≡ true → Holds (on_event p m e o)
-    unfolding Along
-    on_event_lem P.WaitingPairingRequest g = by_event P.WaitingPairingRequest (λ ok i. (λ t. g _ (bonded_link (o, rw (← t) i)), λ t. fail _ _)) (λ i. fail _ _) (fail _ _) (λ n t. fail _ _) (λ i. fail _ _)
-    on_event_lem P.WaitingPublicKey g = λ e i r. fail _ _
-    on_event_lem P.WaitingNumericComparisonRandom g = λ e i r. fail _ _
-    on_event_lem (P.WaitingNumericComparisonResult true) g =
-        by_event (P.WaitingNumericComparisonResult true) (λ ok i. fail _ _) (λ i. (λ s. g _ (yes_held (o, i) (same_eq _ _ s)), λ s. fail _ _)) (fail _ _) (λ n t. fail _ _) (λ i. fail _ _)
-    on_event_lem (P.WaitingNumericComparisonResult false) g = by_event (P.WaitingNumericComparisonResult false) (λ ok i. fail _ _) (λ i. g _ (yes (o, i))) (fail _ _) (λ n t. fail _ _) (λ i. fail _ _)
-    on_event_lem (P.WaitingPassKeyInput true) g = by_event (P.WaitingPassKeyInput true) (λ ok i. fail _ _) (λ i. fail _ _) (fail _ _) (λ n t. g _ (passkey_held t)) (λ i. fail _ _)
-    on_event_lem (P.WaitingPassKeyInput false) g = by_event (P.WaitingPassKeyInput false) (λ ok i. fail _ _) (λ i. fail _ _) (fail _ _) (λ n t. g _ (passkey t)) (λ i. fail _ _)
-    on_event_lem (P.WaitingPassKeyEntryConfirm round) g = λ e i r. fail _ _
-    on_event_lem (P.WaitingPassKeyEntryRandom round) g = λ e i r. fail _ _
-    on_event_lem P.WaitingOobData g =
-        by_event P.WaitingOobData (λ ok i. fail _ _) (λ i. fail _ _) (fail _ _) (λ n t. fail _ _)
-        (λ i. (λ a. g _ (oob_data o i (rw a)), λ a. (λ s. g _ (oob_data o i (rw (a, s))), λ s. fail _ _)))
-    on_event_lem P.WaitingOobRandom g = λ e i r. fail _ _
-    on_event_lem P.WaitingDHKeyEa g = λ e i r. fail _ _
-    on_event_lem P.WaitingLinkEncrypted g = by_event P.WaitingLinkEncrypted (λ ok i. (λ t. g _ (link (o, rw (← t) i)), λ t. fail _ _)) (λ i. fail _ _) (fail _ _) (λ n t. fail _ _) (λ i. fail _ _)
-    on_event_lem P.WaitingIdentitityInformation g = λ e i r. fail _ _
-    on_event_lem P.WaitingIdentitityAddressInformation g = λ e i r. fail _ _
-    on_event_lem P.Success g = λ e i r. stay _
-    on_event_lem (P.Error f) g = λ e i r. stay _
+  on_event_lem : (p : Phase) → ((q : Plan State) → Awaited m c p q → Holds q) → (e : Event) → c.input ≡ event e → ranged (event e) ≡ true → Holds (on_event p m e)
+  unfolding Along
+  on_event_lem P.WaitingPairingRequest g = by_event P.WaitingPairingRequest (λ ok i. (λ t. g _ (bonded_link (rw (← t) i)), λ t. fail _ _)) (λ i. fail _ _) (fail _ _) (λ n t. fail _ _) (λ o i. fail _ _)
+  on_event_lem P.WaitingPublicKey g = λ e i r. fail _ _
+  on_event_lem P.WaitingNumericComparisonRandom g = λ e i r. fail _ _
+  on_event_lem (P.WaitingNumericComparisonResult true) g =
+      by_event (P.WaitingNumericComparisonResult true) (λ ok i. fail _ _) (λ i. (λ s. g _ (yes_held i (same_eq _ _ s)), λ s. fail _ _)) (fail _ _) (λ n t. fail _ _) (λ o i. fail _ _)
+  on_event_lem (P.WaitingNumericComparisonResult false) g = by_event (P.WaitingNumericComparisonResult false) (λ ok i. fail _ _) (λ i. g _ (yes i)) (fail _ _) (λ n t. fail _ _) (λ o i. fail _ _)
+  on_event_lem (P.WaitingPassKeyInput true) g = by_event (P.WaitingPassKeyInput true) (λ ok i. fail _ _) (λ i. fail _ _) (fail _ _) (λ n t. g _ (passkey_held t)) (λ o i. fail _ _)
+  on_event_lem (P.WaitingPassKeyInput false) g = by_event (P.WaitingPassKeyInput false) (λ ok i. fail _ _) (λ i. fail _ _) (fail _ _) (λ n t. g _ (passkey t)) (λ o i. fail _ _)
+  on_event_lem (P.WaitingPassKeyEntryConfirm round) g = λ e i r. fail _ _
+  on_event_lem (P.WaitingPassKeyEntryRandom round) g = λ e i r. fail _ _
+  on_event_lem P.WaitingOobData g =
+      by_event P.WaitingOobData (λ ok i. fail _ _) (λ i. fail _ _) (fail _ _) (λ n t. fail _ _)
+      (λ o i. (λ a. g _ (oob_data o i (rw a)), λ a. (λ s. g _ (oob_data o i (rw (a, s))), λ s. fail _ _)))
+  on_event_lem P.WaitingOobRandom g = λ e i r. fail _ _
+  on_event_lem P.WaitingDHKeyEa g = λ e i r. fail _ _
+  on_event_lem P.WaitingLinkEncrypted g = by_event P.WaitingLinkEncrypted (λ ok i. (λ t. g _ (link (rw (← t) i)), λ t. fail _ _)) (λ i. fail _ _) (fail _ _) (λ n t. fail _ _) (λ o i. fail _ _)
+  on_event_lem P.WaitingIdentitityInformation g = λ e i r. fail _ _
+  on_event_lem P.WaitingIdentitityAddressInformation g = λ e i r. fail _ _
+  on_event_lem P.Success g = λ e i r. stay _
+  on_event_lem (P.Error f) g = λ e i r. stay _
 
 -- a finished phase refuses, so one that fails is not finished
 pub visit : (m : State) (c : Call) (H : Ending State → Type 0) → ((r : Refusal) → H (refuses r))
-    → (finished_phase m.phase ≡ false → (e : ConnectionEvent) (f : Failure) → H (fails e f))
+    → (finished_phase m.phase ≡ false → (e : Option ConnectionEvent) (f : Failure) → H (fails e f))
     → ((q : Plan State) → Awaited m c m.phase q → Along c.supplied H q) → H (runs c.supplied (plan responder m c.input c.room))
 visit m c H stay fail g =
     walk responder m c H (λ u. stay _) (λ u n. stay _) (λ u n r. stay _) (λ u n i. fail u _ _)
-    (λ u n code w i. on_command_lem c H stay (fail u) m code w i m.phase g) (λ u n e o i r. on_event_lem c H stay (fail u) m o m.phase g e i r)
+    (λ u n code w i. on_command_lem c H stay (fail u) m code w i m.phase g) (λ u n e i r. on_event_lem c H stay (fail u) m m.phase g e i r)
 
 -- after round r: the next one, or the DHKey check
 pub any_round : (r : ℕ) (X : Phase → Type 0) → (r < 19 → X (P.WaitingPassKeyEntryConfirm (r + 1))) → (19 ≤ r → X P.WaitingDHKeyEa) → X (waits (after_of r))
@@ -227,16 +222,16 @@ any_round r X f g = go (ltb r 19) refl
 
 -- by any method, after the key and after the random
 module _ (a : Supplied) (H : Ending State → Type 0) (m : State) where
-  pub any_key : (s : Secrets) → H (refuses R.PasskeyRange) → (m.method ≡ OutOfBand → H (goes (to m P.WaitingOobData s) (own_key m ∷ []) E.OobRequest))
+  pub any_key : (s : Secrets) → H (refuses R.PasskeyRange) → (m.method ≡ OutOfBand → H (goes (to m P.WaitingOobData s) (own_key m ∷ []) (Some E.OobRequest)))
       → ((x : PassKeyEntryAction) (n : ℕ) → m.method ≡ PassKeyEntry x W.Display → Shows m.setup.passkey a.passkey n → H (showing m s n))
-      → ((x : PassKeyEntryAction) → m.method ≡ PassKeyEntry x W.Input → H (goes (to m (P.WaitingPassKeyInput false) s) (own_key m ∷ []) E.PassKeyInput))
+      → ((x : PassKeyEntryAction) → m.method ≡ PassKeyEntry x W.Input → H (goes (to m (P.WaitingPassKeyInput false) s) (own_key m ∷ []) (Some E.PassKeyInput)))
       → (m.method ≡ JustWorks → Along a H (comparing m s)) → (m.method ≡ NumericComparison → Along a H (comparing m s)) → Along a H (begins m.method m s)
   unfolding Along
   any_key s stay oob show type works number = go m.method refl
     where
-      shows : (k : Configured) → ((n : ℕ) → Shows k a.passkey n → H (showing m s n)) → Along a H (shown k (λ n. ends (showing m s n)))
-      shows C.Nothing g = (λ r. g a.passkey (drawn a.passkey r), λ r. stay)
-      shows (C.Passkey n) g = g n (configured n a.passkey)
+      shows : (k : Option ℕ) → ((n : ℕ) → Shows k a.passkey n → H (showing m s n)) → Along a H (shown k (λ n. ends (showing m s n)))
+      shows None g = (λ r. g a.passkey (drawn a.passkey r), λ r. stay)
+      shows (Some n) g = g n (configured n a.passkey)
 
       go : (x : PairingMethod) → m.method ≡ x → Along a H (begins x m s)
       go OutOfBand e = oob e
@@ -245,7 +240,7 @@ module _ (a : Supplied) (H : Ending State → Type 0) (m : State) where
       go JustWorks e = works e
       go NumericComparison e = number e
 
-  pub any_random : (x : PairingMethod) (n : List ℕ) → H (disclosing m n P.WaitingDHKeyEa E.Nothing) → Along a H (numbering m n) → Along a H (compares x m n)
+  pub any_random : (x : PairingMethod) (n : List ℕ) → H (disclosing m n P.WaitingDHKeyEa None) → Along a H (numbering m n) → Along a H (compares x m n)
   unfolding Along
   any_random JustWorks n f g = f
   any_random NumericComparison n f g = g

@@ -1,5 +1,6 @@
 -- How every call ends, and what it asks, draws and sends: the one walk over the plans of all phases, which the theorems on single calls are read off.
 -- Assumes nothing.
+use Rattle.std.specs.Prelude.{Option, Some, None, Result, option_map}
 use Prim.Native.Nat.{ℕ, ◌+◌, ◌≤◌}
 use mathlib.Core.Path.{◌≡◌, refl, ap, sym, ◌∙◌}
 use mathlib.Core.Logic.{◌⊎◌, inl, inr}
@@ -15,21 +16,17 @@ use Rattle.features.specs.Features.{io_cap_of}
 use Rattle.method.specs.declared.PairingMethod.{PairingMethod}
 use Rattle.method.specs.declared.PairingMethod.TheVariants.{JustWorks, NumericComparison, PassKeyEntry, OutOfBand}
 use Rattle.method.specs.declared.PassKeyEntryAction.TheVariants as W
-use Rattle.std.specs.Prelude.{Some, None}
 use Rattle.rounds.specs.Rounds.{after_of, in_range}
 use Rattle.frames.specs.Packets.{Packet, request_code, public_key_code, confirm_code, random_code, check_code, pairing_response, pairing_confirm, pairing_random, dhkey_check}
-use Rattle.protocol.specs.declared.Acceptance.{Acceptance}
 use Rattle.protocol.specs.declared.Action.{Action}
 use Rattle.protocol.specs.declared.Answer.{Answer}
 use Rattle.protocol.specs.declared.Answer.TheVariants as A
-use Rattle.protocol.specs.declared.Configured.{Configured}
-use Rattle.protocol.specs.declared.Configured.TheVariants as C
+use Rattle.protocol.specs.declared.Bond.{Bond}
 use Rattle.protocol.specs.declared.ConnectionEvent.{ConnectionEvent}
 use Rattle.protocol.specs.declared.ConnectionEvent.TheVariants as E
 use Rattle.protocol.specs.declared.Event.{Event}
 use Rattle.protocol.specs.declared.Event.TheVariants as I
 use Rattle.protocol.specs.declared.Failure.{Failure}
-use Rattle.protocol.specs.declared.MaybeBond.{MaybeBond}
 use Rattle.protocol.specs.declared.OobData.{OobData}
 use Rattle.protocol.specs.declared.Question.{Question}
 use Rattle.protocol.specs.declared.QuestionKind.{QuestionKind}
@@ -119,18 +116,18 @@ module _ (m : State) (u : finished_phase m.phase ≡ false) (a : Supplied) (n : 
 
   module _ {i : Input} {qs : List Question} where
     -- a failure, by what was asked before it
-    dies : {f : Failure} {v : ConnectionEvent} → Before m (bring i a n) v → All (λ q. Triple m q.kind q.iocap) qs → Asked f (kinds qs) → End m (bring i a n) qs [] (fails v f)
+    dies : {f : Failure} {v : Option ConnectionEvent} → Before m (bring i a n) v → All (λ q. Triple m q.kind q.iocap) qs → Asked f (kinds qs) → End m (bring i a n) qs [] (fails v f)
     dies v t h = record { triples = t; drew = tt; once = refl; setup = refl; features = inl refl; packets = Sends.nothing; first = v; answer = (room, h) }
 
     -- a move, by what was asked and drawn before it
-    moving : {ds : List Draw} {p : Phase} {w : PairingMethod} {s : Secrets} {b : MaybeBond} {r : Address} {ps : List Packet} {e : ConnectionEvent} {x : Action}
+    moving : {ds : List Draw} {p : Phase} {w : PairingMethod} {s : Secrets} {b : Option Bond} {r : Address} {ps : List Packet} {e : Option ConnectionEvent} {x : Option Action}
         → All (λ q. Triple m q.kind q.iocap) qs → All (Reads m a i) ds → leb (length ds) 1 ≡ true → Sends m a ps
         → Onward (record { phase = p; setup = m.setup; features = m.features; method = w; secrets = s; bond = b; peer = r }) e x
-        → End m (bring i a n) qs ds (moves (record { phase = p; setup = m.setup; features = m.features; method = w; secrets = s; bond = b; peer = r }) ps E.Nothing e x)
+        → End m (bring i a n) qs ds (moves (record { phase = p; setup = m.setup; features = m.features; method = w; secrets = s; bond = b; peer = r }) ps None e x)
     moving t d o p h = record { triples = t; drew = d; once = o; setup = refl; features = inl refl; packets = p; first = inl refl; answer = h }
 
   -- a failure before anything was asked
-  falls : {i : Input} {f : Failure} → by_answer f ≡ false → End m (bring i a n) [] [] (fails E.Nothing f)
+  falls : {i : Input} {f : Failure} → by_answer f ≡ false → End m (bring i a n) [] [] (fails None f)
   falls h = dies (inl refl) tt (Asked.nothing h)
 
   -- The parts that two calls share, and those with a case for each method
@@ -177,25 +174,25 @@ module _ (m : State) (u : finished_phase m.phase ≡ false) (a : Supplied) (n : 
     )
 
     -- the encrypted link
-    encrypted : (b : MaybeBond) → Ends i (encrypting (bonded m b))
+    encrypted : (b : Option Bond) → Ends i (encrypting (bonded m b))
     unfolding Traced
     encrypted b = (λ _. moving tt tt refl Sends.identity (Onward.goes refl refl refl), λ _. moving tt tt refl Sends.identity (Onward.succeeds refl))
 
   -- the passkey is typed
-  typing : (held : Bool) → m.phase ≡ P.WaitingPassKeyInput held → (p : ℕ) (o : OobData) → in_range p ≡ true → Ends (event (I.PassKeyInput p) o) (typed m held p)
+  typing : (held : Bool) → m.phase ≡ P.WaitingPassKeyInput held → (p : ℕ) → in_range p ≡ true → Ends (event (I.PassKeyInput p)) (typed m held p)
   unfolding Traced
-  typing true e p o r = answering (event (I.PassKeyInput p) o) (set_passkey m.secrets p) 0 m.secrets.held (ReadsNonce.typed e r)
-  typing false e p o r = moving tt tt refl Sends.nothing (Onward.goes refl refl refl)
+  typing true e p r = answering (event (I.PassKeyInput p)) (set_passkey m.secrets p) 0 m.secrets.held (ReadsNonce.typed e r)
+  typing false e p r = moving tt tt refl Sends.nothing (Onward.goes refl refl refl)
 
   module _ (code : ℕ) (body : List ℕ) where
     losing : m.phase ≡ P.WaitingPairingRequest → eqb code request_code ≡ true → Before m (bring (command (code ∷ body)) a n) (lost m)
-    losing e k = go m.setup.known.there refl
+    losing e k = go m.setup.known refl
       where
-        go : (b : Bool) → m.setup.known.there ≡ b → Before m (bring (command (code ∷ body)) a n) (cond b E.BondLost E.Nothing)
-        go true h = inr (refl, room, loses e (eqb-true code request_code k) h)
-        go false h = inl refl
+        go : (b : Option Bond) → m.setup.known ≡ b → Before m (bring (command (code ∷ body)) a n) (option_map (λ x. E.BondLost) b)
+        go (Some b) h = inr (refl, room, loses e (eqb-true code request_code k) (rw h refl))
+        go None h = inl refl
 
-    accepted : {x : Acceptance} → m.phase ≡ P.WaitingPairingRequest → eqb code request_code ≡ true → Heard body x
+    accepted : {x : Result PairingFeatures Failure} → m.phase ≡ P.WaitingPairingRequest → eqb code request_code ≡ true → Heard body x
         → Ends (command (code ∷ body)) (accepting (lost m) x λ f. ends (responding m f))
     unfolding Traced
     accepted e k (malformed h) = dies (losing e k) tt (Asked.nothing refl)
@@ -216,9 +213,9 @@ module _ (m : State) (u : finished_phase m.phase ≡ false) (a : Supplied) (n : 
       begun (PassKeyEntry central W.Input) s d = moving (tt, tt) tt refl Sends.key (Onward.goes refl refl refl)
       begun (PassKeyEntry central W.Display) s d = go m.setup.passkey refl
         where
-          go : (x : Configured) → m.setup.passkey ≡ x → Begun (shown x λ p. ends (showing m s p))
-          go (C.Passkey p) c = moving (tt, tt) tt refl Sends.key (Onward.goes refl refl refl)
-          go C.Nothing c =
+          go : (x : Option ℕ) → m.setup.passkey ≡ x → Begun (shown x λ p. ends (showing m s p))
+          go (Some p) c = moving (tt, tt) tt refl Sends.key (Onward.goes refl refl refl)
+          go None c =
               let read : ReadsPasskey m a (command (code ∷ body)) = reads central e k h v d c in (
                 λ _. moving (tt, tt) (read, tt) refl Sends.key (Onward.goes refl refl refl),
                 λ r. record { triples = (tt, tt); drew = (read, tt); once = refl; setup = refl; features = inl refl; packets = Sends.nothing; first = inl refl; answer = (u, room, Outside.drawn read (leb-false a.passkey 999999 r)) },
@@ -227,15 +224,15 @@ module _ (m : State) (u : finished_phase m.phase ≡ false) (a : Supplied) (n : 
   -- An event, by its kind
 
   abbrev Raised : Phase → Event → Type 0
-  Raised p e = (o : OobData) → ranged (event e o) ≡ true → Ends (event e o) (on_event p m e o)
+  Raised p e = ranged (event e) ≡ true → Ends (event e) (on_event p m e)
 
-  raised : (p : Phase) → ((ok : Bool) → Raised p (I.LinkEncryptedResult ok)) × Raised p I.PassKeyConfirm × Raised p I.PassKeyCancel × ((n : ℕ) → Raised p (I.PassKeyInput n)) × Raised p I.OobDataReceived
+  raised : (p : Phase) → ((ok : Bool) → Raised p (I.LinkEncryptedResult ok)) × Raised p I.PassKeyConfirm × Raised p I.PassKeyCancel × ((n : ℕ) → Raised p (I.PassKeyInput n)) × ((o : OobData) → Raised p (I.OobDataReceived o))
       → (e : Event) → Raised p e
   raised p h (I.LinkEncryptedResult ok) = h.0 ok
   raised p h I.PassKeyConfirm = h.1
   raised p h I.PassKeyCancel = h.2
   raised p h (I.PassKeyInput n) = h.3 n
-  raised p h I.OobDataReceived = h.4
+  raised p h (I.OobDataReceived o) = h.4 o
 
   -- Both: each plan is walked to its ends
 
@@ -243,58 +240,58 @@ module _ (m : State) (u : finished_phase m.phase ≡ false) (a : Supplied) (n : 
   unfolding Traced
   phased P.WaitingPairingRequest e = (
     λ code body. (λ k. accepted code body e k (heard body), λ _. falls refl),
-    raised P.WaitingPairingRequest (λ ok o _. (λ _. encrypted _ m.setup.known, λ _. falls refl), λ o _. falls refl, λ o _. falls refl, λ p o _. falls refl, λ o _. falls refl),
+    raised P.WaitingPairingRequest (λ ok _. (λ _. encrypted _ m.setup.known, λ _. falls refl), λ _. falls refl, λ _. falls refl, λ p _. falls refl, λ o _. falls refl),
   )
   phased P.WaitingPublicKey e = (
     λ code body. (
       λ k. (λ h. (λ v. begun code body e (eqb-true code public_key_code k) h v m.method (fresh (key_x body) a.dhkey) refl, λ _. dies (inl refl) (tt, tt) Asked.key), λ _. falls refl),
       λ _. falls refl,
     ),
-    λ x o _. falls refl,
+    λ x _. falls refl,
   )
   phased P.WaitingNumericComparisonRandom e =
-      (λ code body. (λ _. (λ _. comparing _ m.method (flip body), λ _. falls refl), λ _. falls refl), λ x o _. falls refl)
+      (λ code body. (λ _. (λ _. comparing _ m.method (flip body), λ _. falls refl), λ _. falls refl), λ x _. falls refl)
   phased (P.WaitingNumericComparisonResult held) e = (
     λ code body. holding _ held check_code code body (P.WaitingNumericComparisonResult true) refl,
-    raised (P.WaitingNumericComparisonResult held) (λ ok o _. falls refl, λ o _. agreeing _ held, λ o _. falls refl, λ p o _. falls refl, λ o _. falls refl),
+    raised (P.WaitingNumericComparisonResult held) (λ ok _. falls refl, λ _. agreeing _ held, λ _. falls refl, λ p _. falls refl, λ o _. falls refl),
   )
   phased (P.WaitingPassKeyInput held) e = (
     λ code body. holding _ held confirm_code code body (P.WaitingPassKeyInput true) refl,
-    raised (P.WaitingPassKeyInput held) (λ ok o _. falls refl, λ o _. falls refl, λ o _. falls refl, typing held e, λ o _. falls refl),
+    raised (P.WaitingPassKeyInput held) (λ ok _. falls refl, λ _. falls refl, λ _. falls refl, typing held e, λ o _. falls refl),
   )
   phased (P.WaitingPassKeyEntryConfirm r) e =
-      (λ code body. (λ k. (λ h. answering _ m.secrets r (flip body) (ReadsNonce.confirm r e (eqb-true code confirm_code k) h), λ _. falls refl), λ _. falls refl), λ x o _. falls refl)
+      (λ code body. (λ k. (λ h. answering _ m.secrets r (flip body) (ReadsNonce.confirm r e (eqb-true code confirm_code k) h), λ _. falls refl), λ _. falls refl), λ x _. falls refl)
   phased (P.WaitingPassKeyEntryRandom r) e = (
     λ code body.
         (λ _. (λ _. (λ _. moving (tt, tt) tt refl Sends.kept_nonce (Onward.goes (rounded r) refl refl), λ _. dies (inl refl) (tt, tt) Asked.confirm), λ _. falls refl), λ _. falls refl),
-    λ x o _. falls refl,
+    λ x _. falls refl,
   )
-  phased P.WaitingOobData e = (λ code body. falls refl, raised P.WaitingOobData (λ ok o _. falls refl, λ o _. falls refl, λ o _. falls refl, λ p o _. falls refl, λ o _. receives _ o))
+  phased P.WaitingOobData e = (λ code body. falls refl, raised P.WaitingOobData (λ ok _. falls refl, λ _. falls refl, λ _. falls refl, λ p _. falls refl, λ o _. receives _ o))
   phased P.WaitingOobRandom e = (
     λ code body.
         (λ k. (λ h. moving tt (ReadsNonce.oob e (eqb-true code random_code k) h, tt) refl Sends.drawn_nonce (Onward.goes refl refl refl), λ _. falls refl), λ _. falls refl),
-    λ x o _. falls refl,
+    λ x _. falls refl,
   )
-  phased P.WaitingDHKeyEa e = (λ code body. (λ _. weighing _ (is_value body) (flip body), λ _. falls refl), λ x o _. falls refl)
+  phased P.WaitingDHKeyEa e = (λ code body. (λ _. weighing _ (is_value body) (flip body), λ _. falls refl), λ x _. falls refl)
   phased P.WaitingLinkEncrypted e = (
     λ code body. falls refl,
-    raised P.WaitingLinkEncrypted (λ ok o _. (λ _. encrypted _ m.bond, λ _. falls refl), λ o _. falls refl, λ o _. falls refl, λ p o _. falls refl, λ o _. falls refl),
+    raised P.WaitingLinkEncrypted (λ ok _. (λ _. encrypted _ m.bond, λ _. falls refl), λ _. falls refl, λ _. falls refl, λ p _. falls refl, λ o _. falls refl),
   )
   phased P.WaitingIdentitityInformation e =
-      (λ code body. (λ _. (λ _. moving tt tt refl Sends.nothing (Onward.goes refl refl refl), λ _. falls refl), λ _. falls refl), λ x o _. falls refl)
+      (λ code body. (λ _. (λ _. moving tt tt refl Sends.nothing (Onward.goes refl refl refl), λ _. falls refl), λ _. falls refl), λ x _. falls refl)
   phased P.WaitingIdentitityAddressInformation e =
-      (λ code body. (λ _. (λ _. moving tt tt refl Sends.nothing (Onward.succeeds refl), λ _. falls refl), λ _. falls refl), λ x o _. falls refl)
+      (λ code body. (λ _. (λ _. moving tt tt refl Sends.nothing (Onward.succeeds refl), λ _. falls refl), λ _. falls refl), λ x _. falls refl)
   phased P.Success e = absurd (true≢false (sym (ap finished_phase e) ∙ u))
   phased (P.Error f) e = absurd (true≢false (sym (ap finished_phase e) ∙ u))
 
 -- a passkey event out of range
 unranged : (m : State) (a : Supplied) (i : Input) → ranged i ≡ false → Outside m a i
 unranged m a (command cmd) h = absurd (true≢false h)
-unranged m a (event (I.LinkEncryptedResult ok) o) h = absurd (true≢false h)
-unranged m a (event I.PassKeyConfirm o) h = absurd (true≢false h)
-unranged m a (event I.PassKeyCancel o) h = absurd (true≢false h)
-unranged m a (event (I.PassKeyInput p) o) h = Outside.typed (leb-false p 999999 h)
-unranged m a (event I.OobDataReceived o) h = absurd (true≢false h)
+unranged m a (event (I.LinkEncryptedResult ok)) h = absurd (true≢false h)
+unranged m a (event I.PassKeyConfirm) h = absurd (true≢false h)
+unranged m a (event I.PassKeyCancel) h = absurd (true≢false h)
+unranged m a (event (I.PassKeyInput p)) h = Outside.typed (leb-false p 999999 h)
+unranged m a (event (I.OobDataReceived o)) h = absurd (true≢false h)
 
 -- the walk: R1, R2, R3 of an event and an empty command, then the phase's plan
 pub end : (m : State) (c : Call) → let p = plan responder m c.input c.room in End m c (asked c.supplied p) (draws c.supplied p) (runs c.supplied p)

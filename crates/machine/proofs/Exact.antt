@@ -1,4 +1,5 @@
 -- Passkey entry is exactly twenty rounds: the machine stands before the DHKey check just where its taken history is `Passed`. Assumes nothing.
+use Rattle.std.specs.Prelude.{None, Option}
 use Rattle.std.proofs.lemmas.Bool.{cond-true}
 use Prim.Native.Nat.{ℕ, suc, ◌+◌, ◌-◌, ◌≤◌, ◌<◌}
 use mathlib.Core.Path.{◌≡◌, refl, sym, ap, subst, ◌∙◌}
@@ -15,8 +16,6 @@ use Rattle.method.specs.declared.PassKeyEntryAction.{PassKeyEntryAction}
 use Rattle.method.specs.declared.PassKeyEntryAction.TheVariants as W
 use Rattle.rounds.specs.Rounds.{in_range, z_of}
 use Rattle.frames.specs.Packets.{confirm_code}
-use Rattle.protocol.specs.declared.Configured.{Configured}
-use Rattle.protocol.specs.declared.ConnectionEvent.TheVariants as E
 use Rattle.protocol.specs.declared.Setup.{Setup}
 use Rattle.protocol.specs.declared.Supplied.{Supplied}
 use Rattle.protocol.specs.Plan.{Plan, Ending, refuses, fails, moves, runs, asked, Along}
@@ -121,7 +120,7 @@ module _ (cs : List Call)
   by_awaited q (passkey_held t) = λ r. let i = ih _ r in (λ f x u v q d k a b g e. late_of a b t (i.0 v k g e), rw i.2 i.1)
   by_awaited q (confirm {v} k) = λ r. let i = ih _ r in (i.0 v c k refl, i.1, i.2)
   by_awaited {m} q (random {r} {w} k) =
-      any_round r (λ p. Then (at m (P.WaitingPassKeyEntryRandom r)) (disclosing m (flip w) p E.Nothing))
+      any_round r (λ p. Then (at m (P.WaitingPassKeyEntryRandom r)) (disclosing m (flip w) p None))
       (λ l re. let i = ih _ re in let j = by_random m r w k (suc (19 - (r + 1))) (omega arith) i.0 i.1 in (j.0, j.1, i.2))
       (λ l re. let i = ih _ re in let j = by_random m r w k 0 (omega arith) i.1 i.2 in (j.0, j.1, i.3))
   by_awaited q (oob_data o i e) = λ r. ih _ r
@@ -165,7 +164,7 @@ back_rounds none r m p e i o = absurd (omega arith)
 back_rounds (round {d} {h} k g ρ) r m p e i o =
     on p (confirm k) o.0 (Ended _) _ (back_random ρ r _ refl (omega arith) i g o.1.0 (λ l. back_rounds ρ (r + 1) _ refl l i o.1.1))
 
-shown_took : {k : Configured} {d p : ℕ} → Shows k d p → (a : Supplied) → a.passkey ≡ d → (f : ℕ → Plan State) → runs a (shown_as k f) ≡ runs a (f p)
+shown_took : {k : Option ℕ} {d p : ℕ} → Shows k d p → (a : Supplied) → a.passkey ≡ d → (f : ℕ → Plan State) → runs a (shown_as k f) ≡ runs a (f p)
 unfolding runs
 shown_took (configured p d) a e f = refl
 shown_took (drawn p r) a e f = cond-true _ _ _ (ap in_range e ∙ r) ∙ ap (λ (d : ℕ). runs a (f d)) e

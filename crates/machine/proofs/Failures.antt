@@ -1,17 +1,18 @@
 -- Error is where a call failed, and no question follows a failure; BondLost is raised exactly for a request while a bond is known; and a call that is taken
 -- goes on or succeeds. (What a failed call leaves is as in any role.) Assumes nothing.
+use Rattle.std.specs.Prelude.{Option, Some, None, IsSome, Result, Ok, Err, option_map}
 use Prim.Native.Nat.{ℕ, ◌≤◌}
 use mathlib.Core.Path.{◌≡◌, refl, sym, ap, subst, ◌∙◌}
 use mathlib.Core.Logic.{◌↔◌, inl, inr}
-use mathlib.Core.Bool.{true, false, false≢true}
+use mathlib.Core.Bool.{false, false≢true}
 use native.Mathlib.Omega.{arith}
 use borrow.Author.Tests.{le-ltb, eq-eqb}
+use Rattle.features.specs.declared.PairingFeatures.{PairingFeatures}
 use Rattle.frames.specs.Packets.{request_code}
 use Rattle.protocol.specs.declared.Action.{Action}
-use Rattle.protocol.specs.declared.Acceptance.{Acceptance}
-use Rattle.protocol.specs.declared.Acceptance.TheVariants.{Accepted, Rejected}
 use Rattle.protocol.specs.declared.Answer.{Answer}
 use Rattle.protocol.specs.declared.Answer.TheVariants as A
+use Rattle.protocol.specs.declared.Bond.{Bond}
 use Rattle.protocol.specs.declared.ConnectionEvent.{ConnectionEvent}
 use Rattle.protocol.specs.declared.ConnectionEvent.TheVariants as E
 use Rattle.protocol.specs.declared.Failure.{Failure}
@@ -29,7 +30,7 @@ use Rattle.machine.specs.Responder.{responder}
 use Rattle.machine.specs.Failures.{Loses, loses, Before, Asked, kinds, Onward, goes, succeeds}
 use Rattle.machine.proofs.Ends.{Answered, end}
 
-no_error : {s : State} {x : ConnectionEvent} {y : Action} {f : Failure} → Onward s x y → s.phase ≡ P.Error f → ⊥
+no_error : {s : State} {x : Option ConnectionEvent} {y : Option Action} {f : Failure} → Onward s x y → s.phase ≡ P.Error f → ⊥
 no_error (goes u v w) i = false≢true (sym u ∙ ap finished_phase i)
 no_error (succeeds v) i = let z : ◌≡◌ {A = ℕ} 0 1 = cc in omega arith
 
@@ -61,17 +62,22 @@ module _ (m : State) (c : Call) (f : Failure) where
 
 -- BondLost
 
-lost_by : (m : State) (c : Call) {x : ConnectionEvent} → Before m c x → x ≡ E.BondLost → (enough ≤ c.room) × Loses m c.input
+lost_by : (m : State) (c : Call) {x : Option ConnectionEvent} → Before m c x → x ≡ Some E.BondLost → (enough ≤ c.room) × Loses m c.input
 lost_by m c (inl n) e = let z : ◌≡◌ {A = ℕ} 0 1 = cc in absurd (omega arith)
 lost_by m c (inr l) e = (l.1, l.2)
 
-losing : (m : State) (a : Supplied) (n : ℕ) {i : Input} → enough ≤ n → Loses m i → (said responder m (runs a (plan responder m i n))).first ≡ E.BondLost
+losing : (m : State) (a : Supplied) (n : ℕ) {i : Input} → enough ≤ n → Loses m i → (said responder m (runs a (plan responder m i n))).first ≡ Some E.BondLost
 unfolding runs
 losing m a n h (loses {code} {body} p k t) = rw (p, le-ltb n enough h, eq-eqb code request_code k) (go (at m P.WaitingPairingRequest) t (accept_of body))
   where
-    go : (s : State) → s.setup.known.there ≡ true → (x : Acceptance) → (said responder s (runs a (accepting (lost s) x λ f. finally (responding s f)))).first ≡ E.BondLost
-    go s t (Rejected f) = rw t
-    go s t (Accepted f) = rw t
+    known : (b : Option Bond) → IsSome b → option_map (λ x. E.BondLost) b ≡ Some E.BondLost
+    known (Some b) t = refl
+    known None t = absurd (false≢true t)
+
+    go : (s : State) → IsSome s.setup.known → (x : Result PairingFeatures Failure)
+        → (said responder s (runs a (accepting (lost s) x λ f. finally (responding s f)))).first ≡ Some E.BondLost
+    go s t (Err f) = known s.setup.known t
+    go s t (Ok f) = known s.setup.known t
 
 module _ (m : State) (c : Call) where
   -- the first event is BondLost or nothing
@@ -80,6 +86,6 @@ module _ (m : State) (c : Call) where
   first_event = (end m c).first
 
   -- BondLost comes of a request while a bond is known, a failing one included, unless the outbox is short
-  pub lost_iff : ((step responder m c).first ≡ E.BondLost) ↔ ((enough ≤ c.room) × Loses m c.input)
+  pub lost_iff : ((step responder m c).first ≡ Some E.BondLost) ↔ ((enough ≤ c.room) × Loses m c.input)
   unfolding step
   lost_iff = (lost_by m c first_event, λ h. losing m c.supplied c.room h.0 h.1)

@@ -1,7 +1,8 @@
 -- A timeout finishes the machine, and only an encrypted link has a level. Assumes nothing.
+use Rattle.std.specs.Option.{option_map_or}
 use mathlib.Core.Path.{◌≡◌, refl}
 use mathlib.Core.List.{[], ◌∷◌, map}
-use mathlib.Core.Bool.{true, false, cond}
+use mathlib.Core.Bool.{true, false}
 use lib.ListN.{replicate}
 use Rattle.method.specs.declared.SecurityLevel.TheVariants.{NoEncryption}
 use Rattle.protocol.specs.Role.{timed_out}
@@ -54,6 +55,6 @@ no_level m = unencrypted m m.phase
 
 -- in those three, the bond's, if there is one
 pub bond_level : (m : State) → map (λ p. security_level (at m p)) (P.WaitingIdentitityInformation ∷ P.WaitingIdentitityAddressInformation ∷ P.Success ∷ [])
-    ≡ replicate 3 (cond m.bond.there m.bond.bond.level NoEncryption)
+    ≡ replicate 3 (option_map_or (λ b. b.level) m.bond NoEncryption)
 unfolding security_level
 bond_level m = refl

@@ -22,7 +22,7 @@ use Rattle.machine.proofs.Ends.{bring, end}
 -- the step in each case
 outside : (m : State) (a : Supplied) (n : ℕ) {i : Input} → finished_phase m.phase ≡ false → enough ≤ n → Outside m a i → step responder m (bring i a n) ≡ said responder m (refuses R.PasskeyRange)
 unfolding step runs
-outside m a n u h (typed {p} {o} l) = out_of_range responder m (bring (event (I.PassKeyInput p) o) a n) u h (lt-leb p 999999 l)
+outside m a n u h (typed {p} l) = out_of_range responder m (bring (event (I.PassKeyInput p)) a n) u h (lt-leb p 999999 l)
 outside m a n u h (drawn (reads {code} central p e k v w d) l) =
     rw (p, le-ltb n enough h, eq-eqb code public_key_code e, k, v, w, d, lt-leb a.passkey 999999 l)
 

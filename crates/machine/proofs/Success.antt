@@ -1,17 +1,17 @@
 -- Success comes last: the identity address where the peer sends one, after an encrypted link, after a right DHKey check. Assumes nothing.
+use Rattle.std.specs.Prelude.{Option, Some, None, unwrap_or, Bool}
 use Prim.Native.Nat.{ℕ, ◌≤◌}
 use mathlib.Core.Path.{◌≡◌, refl, sym, ap, subst, ◌∙◌}
 use mathlib.Core.List.{List, [], ◌∷◌}
-use mathlib.Core.Bool.{true, false, cond, ◌&&◌}
+use mathlib.Core.Bool.{true, false}
 use mathlib.Core.Logic.{◌⊎◌, inl, inr}
 use Rattle.octets.specs.Octets.{flip}
-use Rattle.std.specs.Prelude.{unwrap_or}
 use Rattle.address.specs.Identity.{decode_of as address_of}
 use Rattle.features.specs.Bits.{identity_bit}
 use Rattle.frames.specs.Packets.{check_code, identity_information_code}
-use Rattle.protocol.specs.declared.ActionKind.TheVariants as K
-use Rattle.protocol.specs.declared.ConnectionEvent.TheVariants as E
-use Rattle.protocol.specs.Plan.{Plan, Ending, no_action, runs, Along, nowhere}
+use Rattle.protocol.specs.declared.Action.TheVariants as X
+use Rattle.protocol.specs.declared.Bond.{Bond}
+use Rattle.protocol.specs.Plan.{Plan, Ending, runs, Along, nowhere}
 use Rattle.protocol.specs.Role.{Call, Outcome, enough, said, plan, step, after, run, is_taken, keep, history}
 use Rattle.protocol.proofs.Runs.{replay, Roomy, roomy}
 use Rattle.machine.specs.declared.Phase.{Phase}
@@ -50,40 +50,43 @@ Into m c o (P.Error f) = Unit {0}
 abbrev Comes : State → Call → Ending State → Type 0
 Comes m c e =
     let o : Outcome State = said responder m e in
-    ((o.next.phase ≡ m.phase) ⊎ Into m c o o.next.phase) × (o.action.kind ≡ K.EnableEncryption → Checks m c)
+    ((o.next.phase ≡ m.phase) ⊎ Into m c o o.next.phase) × ((b : Bond) → o.action ≡ Some (X.EnableEncryption b) → Checks m c)
 
 -- no Success enables encryption
-no_store : {A : Type 0} (m : State) → (storing m.bond (wants_bonding m)).kind ≡ K.EnableEncryption → A
-no_store {A} m =
-    elim (m.bond.there && wants_bonding m)
-    as (λ t. (cond t (record { kind = K.StoreBond; bond = m.bond.bond }) no_action).kind ≡ K.EnableEncryption → A) [ true ↦ λ e. clash (cc) | false ↦ λ e. clash (cc) ]
+no_store : {A : Type 0} (m : State) (x : Bond) → storing m.bond (wants_bonding m) ≡ Some (X.EnableEncryption x) → A
+no_store {A} m x = go m.bond (wants_bonding m)
+  where
+    go : (b : Option Bond) (w : Bool) → storing b w ≡ Some (X.EnableEncryption x) → A
+    go (Some b) true e = clash (cc)
+    go None true e = clash (cc)
+    go b false e = clash (cc)
 
 comes : {m : State} {c : Call} {p : Phase} (q : Plan State) → Awaited m c p q → Along c.supplied (Comes (at m p) c) q
 unfolding Along
-comes q (request a) = (inr tt, λ h. clash (cc))
-comes {m} q (bonded_link i) = (λ b. (inr (Links.bonded refl i, b), λ h. clash (cc)), λ b. (inr (Completes.link (Links.bonded refl i) b), no_store (bonded m m.setup.known)))
+comes q (request a) = (inr tt, λ x h. clash (cc))
+comes {m} q (bonded_link i) = (λ b. (inr (Links.bonded refl i, b), λ x h. clash (cc)), λ b. (inr (Completes.link (Links.bonded refl i) b), no_store (bonded m m.setup.known)))
 comes {m} {c} q (key k) =
-    any_key c.supplied (Comes (at m P.WaitingPublicKey) c) m _ (inl refl, λ h. clash (cc)) (λ e. (inr tt, λ h. clash (cc))) (λ x n e s. (inr tt, λ h. clash (cc))) (λ x e. (inr tt, λ h. clash (cc)))
-    (λ e. (inr tt, λ h. clash (cc))) (λ e. (inr tt, λ h. clash (cc)))
-comes {m} {c} q (compared k) = any_random c.supplied (Comes _ c) m m.method _ (inr tt, λ h. clash (cc)) (inr tt, λ h. clash (cc))
-comes q (early_check k) = (inr tt, λ h. clash (cc))
-comes q (yes i) = (inr tt, λ h. clash (cc))
-comes q (yes_held i e) = (inr (record { check = Checks.held refl i e; kind = refl; key = refl; there = refl; bond = refl }), λ h. Checks.held refl i e)
-comes q (early_confirm k) = (inr tt, λ h. clash (cc))
-comes q (passkey t) = (inr tt, λ h. clash (cc))
-comes q (passkey_held t) = (inr tt, λ h. clash (cc))
-comes q (confirm k) = (inr tt, λ h. clash (cc))
-comes {m} {c} q (random {r} k) = (inr (any_round r (Into _ c _) (λ l. tt) (λ l. tt)), λ h. clash (cc))
-comes q (oob_data o i e) = (inr tt, λ h. clash (cc))
-comes q (oob_random k) = (inr tt, λ h. clash (cc))
-comes q (check k e) = (inr (record { check = Checks.arrived refl k e; kind = refl; key = refl; there = refl; bond = refl }), λ h. Checks.arrived refl k e)
-comes {m} q (link i) = (λ b. (inr (Links.linked refl i, b), λ h. clash (cc)), λ b. (inr (Completes.link (Links.linked refl i) b), no_store m))
-comes q (information k) = (inr (Informs.information refl k), λ h. clash (cc))
+    any_key c.supplied (Comes (at m P.WaitingPublicKey) c) m _ (inl refl, λ x h. clash (cc)) (λ e. (inr tt, λ x h. clash (cc))) (λ x n e s. (inr tt, λ x h. clash (cc))) (λ x e. (inr tt, λ x h. clash (cc)))
+    (λ e. (inr tt, λ x h. clash (cc))) (λ e. (inr tt, λ x h. clash (cc)))
+comes {m} {c} q (compared k) = any_random c.supplied (Comes _ c) m m.method _ (inr tt, λ x h. clash (cc)) (inr tt, λ x h. clash (cc))
+comes q (early_check k) = (inr tt, λ x h. clash (cc))
+comes q (yes i) = (inr tt, λ x h. clash (cc))
+comes q (yes_held i e) = (inr (record { check = Checks.held refl i e; bond = _; action = refl; key = refl; kept = refl }), λ x h. Checks.held refl i e)
+comes q (early_confirm k) = (inr tt, λ x h. clash (cc))
+comes q (passkey t) = (inr tt, λ x h. clash (cc))
+comes q (passkey_held t) = (inr tt, λ x h. clash (cc))
+comes q (confirm k) = (inr tt, λ x h. clash (cc))
+comes {m} {c} q (random {r} k) = (inr (any_round r (Into _ c _) (λ l. tt) (λ l. tt)), λ x h. clash (cc))
+comes q (oob_data o i e) = (inr tt, λ x h. clash (cc))
+comes q (oob_random k) = (inr tt, λ x h. clash (cc))
+comes q (check k e) = (inr (record { check = Checks.arrived refl k e; bond = _; action = refl; key = refl; kept = refl }), λ x h. Checks.arrived refl k e)
+comes {m} q (link i) = (λ b. (inr (Links.linked refl i, b), λ x h. clash (cc)), λ b. (inr (Completes.link (Links.linked refl i) b), no_store m))
+comes q (information k) = (inr (Informs.information refl k), λ x h. clash (cc))
 comes {m} q (address {w} k) = (inr (Completes.address refl k), no_store (addressed m (unwrap_or (address_of w) nowhere)))
 
 module _ (m : State) (c : Call) where
   came : Comes m c (runs c.supplied (plan responder m c.input c.room))
-  came = visit m c (Comes m c) (λ r. (inl refl, λ h. clash (cc))) (λ u e f. (inr tt, λ h. clash (cc))) comes
+  came = visit m c (Comes m c) (λ r. (inl refl, λ x h. clash (cc))) (λ u e f. (inr tt, λ x h. clash (cc))) comes
 
   comes_to : (p : Phase) → ¬ (m.phase ≡ p) → (after responder m c).phase ≡ p → Into m c (step responder m c) p
   unfolding step
@@ -106,9 +109,9 @@ module _ (m : State) (c : Call) where
   to_information n e = comes_to P.WaitingIdentitityInformation n e
 
   -- encryption is enabled at no time but by a right check
-  pub only_checks : (step responder m c).action.kind ≡ K.EnableEncryption → Checks m c
+  pub only_checks : (b : Bond) → (step responder m c).action ≡ Some (X.EnableEncryption b) → Checks m c
   unfolding step
-  only_checks e = came.1 e
+  only_checks b e = came.1 b e
 
   -- and each of these does what it says, with an outbox that is long enough
   module _ (room : enough ≤ c.room) where
@@ -184,7 +187,7 @@ module _ (cs : List Call) (ih : (m : State) → (run responder m cs).phase ≡ P
   by_awaited q (passkey_held t) = λ r. later (ih _ r)
   by_awaited q (confirm k) = λ r. later (ih _ r)
   by_awaited {m} q (random {r} {w} k) =
-      any_round r (λ p. Then (at m (P.WaitingPassKeyEntryRandom r)) (disclosing m (flip w) p E.Nothing)) (λ l i. later (ih _ i)) (λ l i. later (Ends.arrived (ih _ i)))
+      any_round r (λ p. Then (at m (P.WaitingPassKeyEntryRandom r)) (disclosing m (flip w) p None)) (λ l i. later (ih _ i)) (λ l i. later (Ends.arrived (ih _ i)))
   by_awaited q (oob_data o i e) = λ r. later (ih _ r)
   by_awaited q (oob_random k) = λ r. later (Ends.arrived (ih _ r))
   by_awaited q (check k e) = λ r. checked k e (ih _ r)

@@ -1,12 +1,13 @@
 -- What Success means: the call that completes a pairing, and how a history ends that is complete.
-use Rattle.std.specs.Prelude.{ℕ, ◌≡◌, List, [], ◌∷◌, true, false, is_some}
+use Rattle.std.specs.Prelude.{ℕ, ◌≡◌, List, [], ◌∷◌, true, false, Some, is_some}
 use Rattle.octets.specs.Octets.{flip}
 use Rattle.address.specs.Identity.{decode_of as address_of}
 use Rattle.features.specs.declared.PairingFeatures.{PairingFeatures}
 use Rattle.features.specs.Bits.{identity_bit}
 use Rattle.method.specs.declared.PairingMethod.{PairingMethod}
 use Rattle.frames.specs.Packets.{check_code, identity_information_code, identity_address_code}
-use Rattle.protocol.specs.declared.ActionKind.TheVariants as K
+use Rattle.protocol.specs.declared.Action.TheVariants as X
+use Rattle.protocol.specs.declared.Bond.{Bond}
 use Rattle.protocol.specs.declared.Event.TheVariants as I
 use Rattle.protocol.specs.declared.Setup.{Setup}
 use Rattle.protocol.specs.Role.{Call, Outcome}
@@ -48,13 +49,14 @@ pub data Checks (m : State) (c : Call) : Type 0 where
   arrived : {w : List ℕ} → m.phase ≡ P.WaitingDHKeyEa → Value check_code w c → flip w ≡ c.supplied.peercheck → Checks m c
   held : m.phase ≡ P.WaitingNumericComparisonResult true → Raises I.PassKeyConfirm c → m.secrets.held ≡ c.supplied.peercheck → Checks m c
 
--- what reaches WaitingLinkEncrypted: such a check; the outcome enables encryption with the link key of f5 that is supplied with the same call
+-- what reaches WaitingLinkEncrypted: such a check; the outcome enables encryption with a bond that is kept, and its key is the link key of f5 that is
+-- supplied with the same call
 pub record Enables (m : State) (c : Call) (o : Outcome State) : Type 0 where
   pub check : Checks m c
-  pub kind : o.action.kind ≡ K.EnableEncryption
-  pub key : o.action.bond.ltk ≡ c.supplied.ltk
-  pub there : o.next.bond.there ≡ true
-  pub bond : o.next.bond.bond ≡ o.action.bond
+  pub bond : Bond
+  pub action : o.action ≡ Some (X.EnableEncryption bond)
+  pub key : bond.ltk ≡ c.supplied.ltk
+  pub kept : o.next.bond ≡ Some bond
 
 -- A history
 

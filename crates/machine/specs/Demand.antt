@@ -1,11 +1,10 @@
 -- The owner's third demand, and what Success means: the statements, in the owner's order, of every setup and every list of calls, of any kind
 -- and in any order, with no timeout marked. Each is the type of the theorem that proves it: exact, first and twenty_bits in proofs/Exact.antt;
 -- match, mismatch, one_nonce and only_match in Sent.antt; at_most_47 and by_method in Bound.antt; success, from_check and to_link in Success.antt.
-use Rattle.std.specs.Prelude.{ℕ, ◌≤◌, ◌≡◌, List, [], ◌∷◌, ◌++◌, map, true, ◌↔◌, ◌⊎◌, length}
+use Rattle.std.specs.Prelude.{ℕ, ◌≤◌, ◌≡◌, List, [], ◌∷◌, ◌++◌, map, true, ◌↔◌, ◌⊎◌, length, None}
 use Rattle.octets.specs.Octets.{flip}
 use Rattle.rounds.specs.Rounds.{after_of, z_of}
 use Rattle.frames.specs.Packets.{Packet, random_code, pairing_random}
-use Rattle.protocol.specs.declared.ConnectionEvent.TheVariants as E
 use Rattle.protocol.specs.declared.Failure.TheVariants as F
 use Rattle.protocol.specs.declared.Setup.{Setup}
 use Rattle.protocol.specs.Plan.{fails, goes}
@@ -47,13 +46,13 @@ abbrev pub Match : Type 0
 Match =
     (m : State) (r : ℕ) (c : Call) (w : List ℕ) → m.phase ≡ P.WaitingPassKeyEntryRandom r → Value random_code w c → enough ≤ c.room
     → m.secrets.confirm ≡ c.supplied.peerconfirm
-    → step responder m c ≡ said responder m (goes (to m (waits (after_of r)) (set_peer_nonce m.secrets (flip w))) (pairing_random m.secrets.ownnonce ∷ []) E.Nothing)
+    → step responder m c ≡ said responder m (goes (to m (waits (after_of r)) (set_peer_nonce m.secrets (flip w))) (pairing_random m.secrets.ownnonce ∷ []) None)
 
 -- and one whose stored confirm does not: ConfirmValueFailed, which sends nothing
 abbrev pub Mismatch : Type 0
 Mismatch =
     (m : State) (r : ℕ) (c : Call) (w : List ℕ) → m.phase ≡ P.WaitingPassKeyEntryRandom r → Value random_code w c → enough ≤ c.room
-    → ¬ (m.secrets.confirm ≡ c.supplied.peerconfirm) → step responder m c ≡ said responder m (fails E.Nothing F.ConfirmValueFailed)
+    → ¬ (m.secrets.confirm ≡ c.supplied.peerconfirm) → step responder m c ≡ said responder m (fails None F.ConfirmValueFailed)
 
 -- nothing, or one Pairing Random
 abbrev pub AtMostOne : List Packet → Type 0

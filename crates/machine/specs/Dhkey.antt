@@ -1,12 +1,11 @@
 -- WaitingDHKeyEa. Part H 2.3.5.6.5. f5 and f6 take the connection's addresses.
-use Rattle.std.specs.Prelude.{ℕ, List, [], ◌∷◌, Bool, true, ◌&&◌}
+use Rattle.std.specs.Prelude.{ℕ, List, [], ◌∷◌, Bool, ◌&&◌, Some, None}
 use Rattle.octets.specs.Octets.{zeros, same}
 use Rattle.features.specs.Features.{io_cap_of}
 use Rattle.method.specs.Method.{level_of}
 use Rattle.frames.specs.Packets.{dhkey_check}
-use Rattle.protocol.specs.declared.ActionKind.TheVariants as K
+use Rattle.protocol.specs.declared.Action.TheVariants as X
 use Rattle.protocol.specs.declared.Bond.{Bond}
-use Rattle.protocol.specs.declared.ConnectionEvent.TheVariants as E
 use Rattle.protocol.specs.declared.Failure.TheVariants as F
 use Rattle.protocol.specs.declared.Question.{Question}
 use Rattle.protocol.specs.declared.QuestionKind.TheVariants as Q
@@ -38,8 +37,7 @@ new_bond m ltk = record { ltk = ltk; level = level_of m.method; address = m.peer
 -- a right check: ours answers it, and encryption is enabled with the link key
 abbrev pub checked : State → List ℕ → List ℕ → Ending State
 checked m ltk own =
-    moves (at (bonded m (record { there = true; bond = new_bond m ltk })) P.WaitingLinkEncrypted) (dhkey_check own ∷ []) E.Nothing E.Nothing
-    (record { kind = K.EnableEncryption; bond = new_bond m ltk })
+    moves (at (bonded m (Some (new_bond m ltk))) P.WaitingLinkEncrypted) (dhkey_check own ∷ []) None None (Some (X.EnableEncryption (new_bond m ltk)))
 
 -- a check, and whether it has the right length: any wrong length fails as a wrong check does
 abbrev pub checking : State → Bool → List ℕ → Plan State

@@ -1,5 +1,5 @@
 -- WaitingPublicKey: the two public keys, and the first move of each method. Part H 2.3.5.6.1, 2.3.5.6.2.
-use Rattle.std.specs.Prelude.{ℕ, List, [], ◌∷◌, false}
+use Rattle.std.specs.Prelude.{ℕ, List, [], ◌∷◌, false, Some, None}
 use Rattle.method.specs.declared.PairingMethod.{PairingMethod}
 use Rattle.method.specs.declared.PairingMethod.TheVariants.{JustWorks, NumericComparison, PassKeyEntry, OutOfBand}
 use Rattle.method.specs.declared.PassKeyEntryAction.TheVariants as W
@@ -21,17 +21,17 @@ own_key m = public_key m.setup.keyx m.setup.keyy
 abbrev pub comparing : State → Secrets → Plan State
 comparing m s =
     draws_nonce λ n. asks (own_confirm m.setup s n 0) λ confirm.
-    ends (goes (to m P.WaitingNumericComparisonRandom (set_own_nonce s n)) (own_key m ∷ pairing_confirm confirm ∷ []) E.Nothing)
+    ends (goes (to m P.WaitingNumericComparisonRandom (set_own_nonce s n)) (own_key m ∷ pairing_confirm confirm ∷ []) None)
 
 -- the passkey is shown here: it becomes both secrets
 abbrev pub showing : State → Secrets → ℕ → Ending State
-showing m s p = goes (to m (P.WaitingPassKeyEntryConfirm 0) (set_passkey s p)) (own_key m ∷ []) (E.PassKeyDisplay p)
+showing m s p = goes (to m (P.WaitingPassKeyEntryConfirm 0) (set_passkey s p)) (own_key m ∷ []) (Some (E.PassKeyDisplay p))
 
 -- by the method
 abbrev pub begins : PairingMethod → State → Secrets → Plan State
-begins OutOfBand m s = ends (goes (to m P.WaitingOobData s) (own_key m ∷ []) E.OobRequest)
+begins OutOfBand m s = ends (goes (to m P.WaitingOobData s) (own_key m ∷ []) (Some E.OobRequest))
 begins (PassKeyEntry central W.Display) m s = shown m.setup.passkey λ p. ends (showing m s p)
-begins (PassKeyEntry central W.Input) m s = ends (goes (to m (P.WaitingPassKeyInput false) s) (own_key m ∷ []) E.PassKeyInput)
+begins (PassKeyEntry central W.Input) m s = ends (goes (to m (P.WaitingPassKeyInput false) s) (own_key m ∷ []) (Some E.PassKeyInput))
 begins JustWorks m s = comparing m s
 begins NumericComparison m s = comparing m s
 

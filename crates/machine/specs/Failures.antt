@@ -1,9 +1,8 @@
 -- What a failed call has asked, what may come before its end, and what a call comes to that goes on.
-use Rattle.std.specs.Prelude.{ℕ, ◌≤◌, ◌≡◌, ◌⊎◌, List, [], ◌∷◌, map, Bool, true, false}
+use Rattle.std.specs.Prelude.{ℕ, ◌≤◌, ◌≡◌, ◌⊎◌, List, [], ◌∷◌, map, Bool, true, false, Option, Some, None, IsSome}
 use Rattle.frames.specs.Packets.{request_code}
 use Rattle.protocol.specs.declared.Action.{Action}
-use Rattle.protocol.specs.declared.ActionKind.{ActionKind}
-use Rattle.protocol.specs.declared.ActionKind.TheVariants as K
+use Rattle.protocol.specs.declared.Action.TheVariants as X
 use Rattle.protocol.specs.declared.ConnectionEvent.{ConnectionEvent}
 use Rattle.protocol.specs.declared.ConnectionEvent.TheVariants as E
 use Rattle.protocol.specs.declared.Failure.{Failure}
@@ -19,11 +18,11 @@ use Rattle.machine.specs.Keys.{wants_bonding, completing, storing}
 
 -- a request while a bond is known: the peer has lost it
 pub data Loses (m : State) : Input → Type 0 where
-  loses : {code : ℕ} {body : List ℕ} → m.phase ≡ P.WaitingPairingRequest → code ≡ request_code → m.setup.known.there ≡ true → Loses m (command (code ∷ body))
+  loses : {code : ℕ} {body : List ℕ} → m.phase ≡ P.WaitingPairingRequest → code ≡ request_code → IsSome m.setup.known → Loses m (command (code ∷ body))
 
 -- the event that may come first: BondLost, where the bond is lost and the outbox is long enough
-abbrev pub Before : State → Call → ConnectionEvent → Type 0
-Before m c first = (first ≡ E.Nothing) ⊎ ((first ≡ E.BondLost) × (enough ≤ c.room) × Loses m c.input)
+abbrev pub Before : State → Call → Option ConnectionEvent → Type 0
+Before m c first = (first ≡ None) ⊎ ((first ≡ Some E.BondLost) × (enough ≤ c.room) × Loses m c.input)
 
 -- the failures that an answer decides: a wrong confirm, an invalid key or a wrong check
 abbrev pub by_answer : Failure → Bool
@@ -54,22 +53,22 @@ kinds qs = map (λ q. q.kind) qs
 -- A call that goes on
 
 -- the pairing is complete; the bond is to be stored
-abbrev pub complete : ConnectionEvent → Bool
-complete E.Nothing = false
-complete E.BondLost = false
-complete E.OobRequest = false
-complete (E.PassKeyDisplay p) = false
-complete E.PassKeyInput = false
-complete (E.PassKeyConfirm n) = false
-complete (E.PairingComplete level stored) = true
-complete (E.PairingFailed f) = false
+abbrev pub complete : Option ConnectionEvent → Bool
+complete None = false
+complete (Some E.BondLost) = false
+complete (Some E.OobRequest) = false
+complete (Some (E.PassKeyDisplay p)) = false
+complete (Some E.PassKeyInput) = false
+complete (Some (E.PassKeyConfirm n)) = false
+complete (Some (E.PairingComplete level stored)) = true
+complete (Some (E.PairingFailed f)) = false
 
-abbrev pub stored : ActionKind → Bool
-stored K.Nothing = false
-stored K.EnableEncryption = false
-stored K.StoreBond = true
+abbrev pub stored : Option Action → Bool
+stored None = false
+stored (Some (X.EnableEncryption b)) = false
+stored (Some (X.StoreBond b)) = true
 
 -- a call that is taken comes to an unfinished phase, or to Success, which alone completes the pairing
-pub data Onward : State → ConnectionEvent → Action → Type 0 where
-  goes : {s : State} {e : ConnectionEvent} {x : Action} → finished_phase s.phase ≡ false → complete e ≡ false → stored x.kind ≡ false → Onward s e x
+pub data Onward : State → Option ConnectionEvent → Option Action → Type 0 where
+  goes : {s : State} {e : Option ConnectionEvent} {x : Option Action} → finished_phase s.phase ≡ false → complete e ≡ false → stored x ≡ false → Onward s e x
   succeeds : {s : State} → s.phase ≡ P.Success → Onward s (completing s.bond (wants_bonding s)) (storing s.bond (wants_bonding s))

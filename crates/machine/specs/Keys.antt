@@ -1,17 +1,17 @@
 -- WaitingLinkEncrypted, WaitingIdentitityInformation and WaitingIdentitityAddressInformation. Part H 2.4.3.2, 3.6.1.
-use Rattle.std.specs.Prelude.{ℕ, List, [], ◌∷◌, Bool, true, cond, ◌&&◌}
+use Rattle.std.specs.Prelude.{ℕ, List, [], ◌∷◌, Bool, cond, ◌&&◌, Option, None, option_map}
 use Rattle.address.specs.declared.Address.{Address}
 use Rattle.features.specs.Bits.{bonding_bits, identity_bit}
 use Rattle.frames.specs.Packets.{Packet, identity_information_code, identity_information, identity_address}
 use Rattle.protocol.specs.declared.Action.{Action}
-use Rattle.protocol.specs.declared.ActionKind.TheVariants as K
+use Rattle.protocol.specs.declared.Action.TheVariants as X
+use Rattle.protocol.specs.declared.Bond.{Bond}
 use Rattle.protocol.specs.declared.ConnectionEvent.{ConnectionEvent}
 use Rattle.protocol.specs.declared.ConnectionEvent.TheVariants as E
 use Rattle.protocol.specs.declared.Event.{Event}
 use Rattle.protocol.specs.declared.Event.TheVariants as I
 use Rattle.protocol.specs.declared.Failure.TheVariants as F
-use Rattle.protocol.specs.declared.MaybeBond.{MaybeBond}
-use Rattle.protocol.specs.Plan.{Plan, Ending, ends, tests, moves, goes, needs, no_action, unlisted}
+use Rattle.protocol.specs.Plan.{Plan, Ending, ends, tests, moves, goes, needs, unlisted}
 use Rattle.protocol.specs.Parts.{value, identity}
 use Rattle.machine.specs.declared.Phase.TheVariants as P
 use Rattle.machine.specs.declared.State.{State}
@@ -25,14 +25,14 @@ abbrev pub wants_bonding : State → Bool
 wants_bonding m = m.setup.bonding && bonding_bits m.features.authreq
 
 -- with a bond: PairingComplete with its level; stored and reported only if both ask bonding. Without a bond: no event
-abbrev pub completing : MaybeBond → Bool → ConnectionEvent
-completing b w = cond b.there (E.PairingComplete b.bond.level w) E.Nothing
+abbrev pub completing : Option Bond → Bool → Option ConnectionEvent
+completing b w = option_map (λ x. E.PairingComplete x.level w) b
 
-abbrev pub storing : MaybeBond → Bool → Action
-storing b w = cond (b.there && w) (record { kind = K.StoreBond; bond = b.bond }) no_action
+abbrev pub storing : Option Bond → Bool → Option Action
+storing b w = cond w (option_map (λ x. X.StoreBond x) b) None
 
 abbrev pub succeeds : State → List Packet → Ending State
-succeeds m ps = moves (at m P.Success) ps E.Nothing (completing m.bond (wants_bonding m)) (storing m.bond (wants_bonding m))
+succeeds m ps = moves (at m P.Success) ps None (completing m.bond (wants_bonding m)) (storing m.bond (wants_bonding m))
 
 -- The encrypted link
 
@@ -44,7 +44,7 @@ own_identity m =
 -- our keys go, and the peer's are waited for where its initiator bit is set
 abbrev pub encrypting : State → Plan State
 encrypting m =
-    tests (identity_bit m.features.initiator) (ends (goes (at m P.WaitingIdentitityInformation) (own_identity m) E.Nothing))
+    tests (identity_bit m.features.initiator) (ends (goes (at m P.WaitingIdentitityInformation) (own_identity m) None))
     (ends (succeeds m (own_identity m)))
 
 -- an event in WaitingPairingRequest: the known bond, or none, is the bond
@@ -53,7 +53,7 @@ on_bonded_link m (I.LinkEncryptedResult ok) = needs ok F.KeyRejected (encrypting
 on_bonded_link m I.PassKeyConfirm = unlisted
 on_bonded_link m I.PassKeyCancel = unlisted
 on_bonded_link m (I.PassKeyInput p) = unlisted
-on_bonded_link m I.OobDataReceived = unlisted
+on_bonded_link m (I.OobDataReceived o) = unlisted
 
 -- an event in WaitingLinkEncrypted
 abbrev pub on_encrypted : State → Event → Plan State
@@ -61,26 +61,25 @@ on_encrypted m (I.LinkEncryptedResult ok) = needs ok F.KeyRejected (encrypting m
 on_encrypted m I.PassKeyConfirm = unlisted
 on_encrypted m I.PassKeyCancel = unlisted
 on_encrypted m (I.PassKeyInput p) = unlisted
-on_encrypted m I.OobDataReceived = unlisted
+on_encrypted m (I.OobDataReceived o) = unlisted
 
 -- The peer's identity
 
 -- a bond, if there is one, with the peer's IRK
-abbrev pub with_irk : MaybeBond → List ℕ → MaybeBond
-with_irk b irk =
-    cond b.there (record { there = true; bond = record { ltk = b.bond.ltk; level = b.bond.level; address = b.bond.address; irk = irk } }) b
+abbrev pub with_irk : Option Bond → List ℕ → Option Bond
+with_irk b irk = option_map (λ x. record { ltk = x.ltk; level = x.level; address = x.address; irk = irk }) b
 
 -- it is kept, and the identity address waited for
 abbrev pub informed : State → List ℕ → Ending State
-informed m irk = goes (at (bonded m (with_irk m.bond irk)) P.WaitingIdentitityAddressInformation) [] E.Nothing
+informed m irk = goes (at (bonded m (with_irk m.bond irk)) P.WaitingIdentitityAddressInformation) [] None
 
 -- a command in WaitingIdentitityInformation
 abbrev pub on_information : State → ℕ → List ℕ → Plan State
 on_information m code body = value identity_information_code F.InvalidValue code body λ irk. ends (informed m irk)
 
 -- a bond, if there is one, with the peer's identity address
-abbrev pub with_address : MaybeBond → Address → MaybeBond
-with_address b a = cond b.there (record { there = true; bond = record { ltk = b.bond.ltk; level = b.bond.level; address = a; irk = b.bond.irk } }) b
+abbrev pub with_address : Option Bond → Address → Option Bond
+with_address b a = option_map (λ x. record { ltk = x.ltk; level = x.level; address = a; irk = x.irk }) b
 
 -- it becomes the peer address
 abbrev pub addressed : State → Address → State

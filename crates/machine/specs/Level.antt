@@ -1,5 +1,6 @@
 -- The security level of the link.
-use Rattle.std.specs.Prelude.{Bool, true, false, cond, ◌&&◌}
+use Rattle.std.specs.Prelude.{Bool, true, false, cond}
+use Rattle.std.specs.Option.{option_map_or}
 use Rattle.method.specs.declared.SecurityLevel.{SecurityLevel}
 use Rattle.method.specs.declared.SecurityLevel.TheVariants.{NoEncryption}
 use Rattle.machine.specs.declared.Phase.{Phase}
@@ -26,4 +27,4 @@ encrypted (P.Error f) = false
 
 -- the bond's level where the link is encrypted and there is a bond
 unfoldable pub security_level : State → SecurityLevel
-security_level m = cond (encrypted m.phase && m.bond.there) m.bond.bond.level NoEncryption
+security_level m = cond (encrypted m.phase) (option_map_or (λ b. b.level) m.bond NoEncryption) NoEncryption

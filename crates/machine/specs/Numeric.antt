@@ -1,5 +1,5 @@
 -- WaitingNumericComparisonRandom and WaitingNumericComparisonResult. Part H 2.3.5.6.2.
-use Rattle.std.specs.Prelude.{ℕ, ◌%◌, List, [], ◌∷◌, Bool, true, false}
+use Rattle.std.specs.Prelude.{ℕ, ◌%◌, List, [], ◌∷◌, Bool, true, false, Option, Some, None}
 use Rattle.method.specs.declared.PairingMethod.{PairingMethod}
 use Rattle.method.specs.declared.PairingMethod.TheVariants.{JustWorks, NumericComparison, PassKeyEntry, OutOfBand}
 use Rattle.frames.specs.Packets.{random_code, check_code, pairing_random}
@@ -19,18 +19,18 @@ use Rattle.machine.specs.State.{at, to}
 use Rattle.machine.specs.Dhkey.{checking}
 
 -- the peer's nonce is kept, and ours answers it
-abbrev pub disclosing : State → List ℕ → Phase → ConnectionEvent → Ending State
+abbrev pub disclosing : State → List ℕ → Phase → Option ConnectionEvent → Ending State
 disclosing m n p e = goes (to m p (set_peer_nonce m.secrets n)) (pairing_random m.secrets.ownnonce ∷ []) e
 
 -- the user compares g2(peer x, our x, peer nonce, our nonce), six decimal digits
 abbrev pub numbering : State → List ℕ → Plan State
 numbering m n =
     asks (ask_g2 m.secrets.peerx m.setup.keyx n m.secrets.ownnonce) λ g.
-    ends (disclosing m n (P.WaitingNumericComparisonResult false) (E.PassKeyConfirm (g % 1000000)))
+    ends (disclosing m n (P.WaitingNumericComparisonResult false) (Some (E.PassKeyConfirm (g % 1000000))))
 
 -- Just Works compares nothing
 abbrev pub compares : PairingMethod → State → List ℕ → Plan State
-compares JustWorks m n = ends (disclosing m n P.WaitingDHKeyEa E.Nothing)
+compares JustWorks m n = ends (disclosing m n P.WaitingDHKeyEa None)
 compares NumericComparison m n = numbering m n
 compares (PassKeyEntry central peripheral) m n = numbering m n
 compares OutOfBand m n = numbering m n
@@ -46,12 +46,12 @@ on_early_check m held code body = holds m held check_code code body (P.WaitingNu
 -- the user's yes: a held check is handled
 abbrev pub confirmed : State → Bool → Plan State
 confirmed m true = checking m true m.secrets.held
-confirmed m false = ends (goes (at m P.WaitingDHKeyEa) [] E.Nothing)
+confirmed m false = ends (goes (at m P.WaitingDHKeyEa) [] None)
 
 -- an event in WaitingNumericComparisonResult
 abbrev pub on_comparison : State → Bool → Event → Plan State
 on_comparison m held (I.LinkEncryptedResult ok) = unlisted
 on_comparison m held I.PassKeyConfirm = confirmed m held
-on_comparison m held I.PassKeyCancel = ends (fails E.Nothing F.NumericComparisonFailed)
+on_comparison m held I.PassKeyCancel = ends (fails None F.NumericComparisonFailed)
 on_comparison m held (I.PassKeyInput p) = unlisted
-on_comparison m held I.OobDataReceived = unlisted
+on_comparison m held (I.OobDataReceived o) = unlisted

@@ -1,9 +1,8 @@
 -- WaitingOobData and WaitingOobRandom. Part H 2.3.5.6.4.
-use Rattle.std.specs.Prelude.{ℕ, List, [], ◌∷◌, Bool, cond, ◌&&◌}
+use Rattle.std.specs.Prelude.{ℕ, List, [], ◌∷◌, Bool, cond, ◌&&◌, None}
 use Rattle.octets.specs.Octets.{zeros, same, all_zero}
 use Rattle.method.specs.Method.{set}
 use Rattle.frames.specs.Packets.{random_code, pairing_random}
-use Rattle.protocol.specs.declared.ConnectionEvent.TheVariants as E
 use Rattle.protocol.specs.declared.Event.{Event}
 use Rattle.protocol.specs.declared.Event.TheVariants as I
 use Rattle.protocol.specs.declared.Failure.TheVariants as F
@@ -23,7 +22,7 @@ absent o = all_zero o.peerrandom && all_zero o.peerconfirm
 -- the peer's random is its secret; ours counts only where the peer has our data
 abbrev pub received : State → OobData → Ending State
 received m o =
-    goes (to m P.WaitingOobRandom (set_secrets m.secrets o.peerrandom (cond (set m.features.oob) o.ownrandom (zeros 16)))) [] E.Nothing
+    goes (to m P.WaitingOobRandom (set_secrets m.secrets o.peerrandom (cond (set m.features.oob) o.ownrandom (zeros 16)))) [] None
 
 -- the data: the peer's confirm is f4(peer x, peer x, peer random, 0)
 abbrev pub receiving : State → OobData → Plan State
@@ -33,16 +32,16 @@ receiving m o =
     needs (same o.peerconfirm confirm) F.ConfirmValueFailed (ends (received m o)))
 
 -- an event in WaitingOobData
-abbrev pub on_oob_data : State → Event → OobData → Plan State
-on_oob_data m (I.LinkEncryptedResult ok) o = unlisted
-on_oob_data m I.PassKeyConfirm o = unlisted
-on_oob_data m I.PassKeyCancel o = unlisted
-on_oob_data m (I.PassKeyInput p) o = unlisted
-on_oob_data m I.OobDataReceived o = receiving m o
+abbrev pub on_oob_data : State → Event → Plan State
+on_oob_data m (I.LinkEncryptedResult ok) = unlisted
+on_oob_data m I.PassKeyConfirm = unlisted
+on_oob_data m I.PassKeyCancel = unlisted
+on_oob_data m (I.PassKeyInput p) = unlisted
+on_oob_data m (I.OobDataReceived o) = receiving m o
 
 -- a fresh nonce answers the peer's
 abbrev pub answering : State → List ℕ → Plan State
-answering m peer = draws_nonce λ own. ends (goes (to m P.WaitingDHKeyEa (set_nonces m.secrets peer own)) (pairing_random own ∷ []) E.Nothing)
+answering m peer = draws_nonce λ own. ends (goes (to m P.WaitingDHKeyEa (set_nonces m.secrets peer own)) (pairing_random own ∷ []) None)
 
 -- a command in WaitingOobRandom
 abbrev pub on_oob_random : State → ℕ → List ℕ → Plan State

@@ -1,5 +1,5 @@
 -- Passkey entry as a history of calls: what was taken, from the request to the last of the twenty rounds.
-use Rattle.std.specs.Prelude.{ℕ, zero, suc, ◌≡◌, List, [], ◌∷◌, Bool, true, false}
+use Rattle.std.specs.Prelude.{ℕ, zero, suc, ◌≡◌, List, [], ◌∷◌, Bool, true, false, Option, Some, None, Ok}
 use Rattle.octets.specs.Octets.{flip}
 use Rattle.features.specs.declared.PairingFeatures.{PairingFeatures}
 use Rattle.method.specs.declared.Kind.TheVariants.{SecureConnections}
@@ -10,12 +10,8 @@ use Rattle.method.specs.declared.PassKeyEntryAction.TheVariants as W
 use Rattle.method.specs.Method.{method_of}
 use Rattle.rounds.specs.Rounds.{in_range}
 use Rattle.frames.specs.Packets.{request_code, public_key_code, confirm_code, random_code}
-use Rattle.protocol.specs.declared.Acceptance.TheVariants.{Accepted}
-use Rattle.protocol.specs.declared.Configured.{Configured}
-use Rattle.protocol.specs.declared.Configured.TheVariants as C
 use Rattle.protocol.specs.declared.Event.{Event}
 use Rattle.protocol.specs.declared.Event.TheVariants as I
-use Rattle.protocol.specs.declared.OobData.{OobData}
 use Rattle.protocol.specs.declared.Setup.{Setup}
 use Rattle.protocol.specs.Parts.{accept_of, is_value, is_key}
 use Rattle.protocol.specs.Role.{Call, command, event}
@@ -31,7 +27,7 @@ Brings k w c = c.input ≡ command (k ∷ w)
 
 -- the call brings the event e
 abbrev pub Raises : Event → Call → Type 0
-Raises e c = (o : OobData) × (c.input ≡ event e o)
+Raises e c = c.input ≡ event e
 
 -- one value by the code k
 pub record Value (k : ℕ) (w : List ℕ) (c : Call) : Type 0 where
@@ -42,7 +38,7 @@ pub record Value (k : ℕ) (w : List ℕ) (c : Call) : Type 0 where
 pub record Request (s : Setup) (f : PairingFeatures) (x : PairingMethod) (c : Call) : Type 0 where
   pub payload : List ℕ
   pub brings : Brings request_code payload c
-  pub says : accept_of payload ≡ Accepted f
+  pub says : accept_of payload ≡ Ok f
   pub chooses : method_of SecureConnections f (own_features s f) ≡ x
 
 -- a valid key: the supplied DH is not marked invalid
@@ -52,9 +48,9 @@ pub record Key (w : List ℕ) (c : Call) : Type 0 where
   pub valid : c.supplied.dhvalid ≡ true
 
 -- the number p that is shown: the configured one, or, where none is, the drawn one, which is in range
-pub data Shows : Configured → ℕ → ℕ → Type 0 where
-  configured : (p drawn : ℕ) → Shows (C.Passkey p) drawn p
-  drawn : (p : ℕ) → in_range p ≡ true → Shows C.Nothing p p
+pub data Shows : Option ℕ → ℕ → ℕ → Type 0 where
+  configured : (p drawn : ℕ) → Shows (Some p) drawn p
+  drawn : (p : ℕ) → in_range p ≡ true → Shows None p p
 
 -- the passkey, typed here
 pub record Typed (p : ℕ) (c : Call) : Type 0 where

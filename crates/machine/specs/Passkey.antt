@@ -1,9 +1,8 @@
 -- WaitingPassKeyInput, WaitingPassKeyEntryConfirm and WaitingPassKeyEntryRandom. Part H 2.3.5.6.3.
-use Rattle.std.specs.Prelude.{ℕ, List, [], ◌∷◌, Option, Some, None, Bool, true, false}
+use Rattle.std.specs.Prelude.{ℕ, List, [], ◌∷◌, Bool, true, false, Option, Some, None}
 use Rattle.octets.specs.Octets.{same}
 use Rattle.rounds.specs.Rounds.{after_of, z_of}
 use Rattle.frames.specs.Packets.{confirm_code, random_code, pairing_confirm, pairing_random}
-use Rattle.protocol.specs.declared.ConnectionEvent.TheVariants as E
 use Rattle.protocol.specs.declared.Event.{Event}
 use Rattle.protocol.specs.declared.Event.TheVariants as I
 use Rattle.protocol.specs.declared.Failure.TheVariants as F
@@ -21,7 +20,7 @@ use Rattle.machine.specs.State.{to}
 abbrev pub confirming : State → Secrets → ℕ → List ℕ → Plan State
 confirming m s r v =
     draws_nonce λ n. asks (own_confirm m.setup s n (z_of s.passkey r)) λ confirm.
-    ends (goes (to m (P.WaitingPassKeyEntryRandom r) (set_confirm s v n)) (pairing_confirm confirm ∷ []) E.Nothing)
+    ends (goes (to m (P.WaitingPassKeyEntryRandom r) (set_confirm s v n)) (pairing_confirm confirm ∷ []) None)
 
 -- a command in WaitingPassKeyInput: an early confirm is held
 abbrev pub on_early_confirm : State → Bool → ℕ → List ℕ → Plan State
@@ -30,15 +29,15 @@ on_early_confirm m held code body = holds m held confirm_code code body (P.Waiti
 -- the passkey is typed: a held confirm is round 0's
 abbrev pub typed : State → Bool → ℕ → Plan State
 typed m true p = confirming m (set_passkey m.secrets p) 0 m.secrets.held
-typed m false p = ends (goes (to m (P.WaitingPassKeyEntryConfirm 0) (set_passkey m.secrets p)) [] E.Nothing)
+typed m false p = ends (goes (to m (P.WaitingPassKeyEntryConfirm 0) (set_passkey m.secrets p)) [] None)
 
 -- an event in WaitingPassKeyInput
 abbrev pub on_typing : State → Bool → Event → Plan State
 on_typing m held (I.LinkEncryptedResult ok) = unlisted
 on_typing m held I.PassKeyConfirm = unlisted
-on_typing m held I.PassKeyCancel = ends (fails E.Nothing F.PasskeyEntryFailed)
+on_typing m held I.PassKeyCancel = ends (fails None F.PasskeyEntryFailed)
 on_typing m held (I.PassKeyInput p) = typed m held p
-on_typing m held I.OobDataReceived = unlisted
+on_typing m held (I.OobDataReceived o) = unlisted
 
 -- a command in WaitingPassKeyEntryConfirm, round r
 abbrev pub on_confirm : State → ℕ → ℕ → List ℕ → Plan State
@@ -51,7 +50,7 @@ waits None = P.WaitingDHKeyEa
 
 -- round r's random that was compared: our nonce answers it
 abbrev pub matched : State → ℕ → List ℕ → Ending State
-matched m r n = goes (to m (waits (after_of r)) (set_peer_nonce m.secrets n)) (pairing_random m.secrets.ownnonce ∷ []) E.Nothing
+matched m r n = goes (to m (waits (after_of r)) (set_peer_nonce m.secrets n)) (pairing_random m.secrets.ownnonce ∷ []) None
 
 -- the kept confirm against f4(peer x, our x, peer nonce, z)
 abbrev pub testing : State → ℕ → List ℕ → Plan State

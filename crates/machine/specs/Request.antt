@@ -1,5 +1,5 @@
 -- WaitingPairingRequest: what we answer, and which method follows. Part H 2.3.5.1, 3.5.1, 3.5.2.
-use Rattle.std.specs.Prelude.{ℕ, List, [], ◌∷◌, Bool, true, false, cond, not, ◌&&◌}
+use Rattle.std.specs.Prelude.{ℕ, List, [], ◌∷◌, Bool, true, false, cond, not, ◌&&◌, Option, None, option_map}
 use Rattle.octets.specs.Octets.{all_zero}
 use Rattle.features.specs.declared.IoCapabilities.{IoCapabilities}
 use Rattle.features.specs.declared.IoCapabilities.TheVariants.{DisplayOnly, DisplayYesNo, KeyboardOnly, NoInputNoOutput, KeyboardDisplay}
@@ -11,7 +11,7 @@ use Rattle.frames.specs.Packets.{request_code, pairing_response}
 use Rattle.protocol.specs.declared.ConnectionEvent.{ConnectionEvent}
 use Rattle.protocol.specs.declared.ConnectionEvent.TheVariants as E
 use Rattle.protocol.specs.declared.Setup.{Setup}
-use Rattle.protocol.specs.Plan.{Plan, Ending, ends, moves, no_action}
+use Rattle.protocol.specs.Plan.{Plan, Ending, ends, moves}
 use Rattle.protocol.specs.Parts.{features}
 use Rattle.machine.specs.declared.Phase.TheVariants as P
 use Rattle.machine.specs.declared.State.{State}
@@ -37,8 +37,8 @@ own_features s f =
     }
 
 -- a request while a bond is known says that the peer lost it
-abbrev pub lost : State → ConnectionEvent
-lost m = cond m.setup.known.there E.BondLost E.Nothing
+abbrev pub lost : State → Option ConnectionEvent
+lost m = option_map (λ b. E.BondLost) m.setup.known
 
 -- the peer's features are kept, the method follows from both
 abbrev pub requested : State → PairingFeatures → State
@@ -55,7 +55,7 @@ requested m f =
 
 -- acceptable features are answered with ours
 abbrev pub responding : State → PairingFeatures → Ending State
-responding m f = moves (requested m f) (pairing_response (own_features m.setup f) ∷ []) (lost m) E.Nothing no_action
+responding m f = moves (requested m f) (pairing_response (own_features m.setup f) ∷ []) (lost m) None None
 
 -- a command in WaitingPairingRequest: BondLost comes first, whether or not the request is acceptable
 abbrev pub on_request : State → ℕ → List ℕ → Plan State

@@ -2,7 +2,6 @@
 use Rattle.std.specs.Prelude.{ℕ, List}
 use Rattle.frames.specs.Packets.{channel}
 use Rattle.protocol.specs.declared.Event.{Event}
-use Rattle.protocol.specs.declared.OobData.{OobData}
 use Rattle.protocol.specs.declared.Refusal.TheVariants as R
 use Rattle.protocol.specs.declared.Supplied.{Supplied}
 use Rattle.protocol.specs.Plan.{Plan, ends, refuses, unlisted}
@@ -40,22 +39,22 @@ on_command P.Success m code body = ends (refuses R.Finished)
 on_command (P.Error f) m code body = ends (refuses R.Finished)
 
 -- an event, by the phase
-abbrev pub on_event : Phase → State → Event → OobData → Plan State
-on_event P.WaitingPairingRequest m e o = on_bonded_link m e
-on_event P.WaitingPublicKey m e o = unlisted
-on_event P.WaitingNumericComparisonRandom m e o = unlisted
-on_event (P.WaitingNumericComparisonResult held) m e o = on_comparison m held e
-on_event (P.WaitingPassKeyInput held) m e o = on_typing m held e
-on_event (P.WaitingPassKeyEntryConfirm round) m e o = unlisted
-on_event (P.WaitingPassKeyEntryRandom round) m e o = unlisted
-on_event P.WaitingOobData m e o = on_oob_data m e o
-on_event P.WaitingOobRandom m e o = unlisted
-on_event P.WaitingDHKeyEa m e o = unlisted
-on_event P.WaitingLinkEncrypted m e o = on_encrypted m e
-on_event P.WaitingIdentitityInformation m e o = unlisted
-on_event P.WaitingIdentitityAddressInformation m e o = unlisted
-on_event P.Success m e o = ends (refuses R.Finished)
-on_event (P.Error f) m e o = ends (refuses R.Finished)
+abbrev pub on_event : Phase → State → Event → Plan State
+on_event P.WaitingPairingRequest m e = on_bonded_link m e
+on_event P.WaitingPublicKey m e = unlisted
+on_event P.WaitingNumericComparisonRandom m e = unlisted
+on_event (P.WaitingNumericComparisonResult held) m e = on_comparison m held e
+on_event (P.WaitingPassKeyInput held) m e = on_typing m held e
+on_event (P.WaitingPassKeyEntryConfirm round) m e = unlisted
+on_event (P.WaitingPassKeyEntryRandom round) m e = unlisted
+on_event P.WaitingOobData m e = on_oob_data m e
+on_event P.WaitingOobRandom m e = unlisted
+on_event P.WaitingDHKeyEa m e = unlisted
+on_event P.WaitingLinkEncrypted m e = on_encrypted m e
+on_event P.WaitingIdentitityInformation m e = unlisted
+on_event P.WaitingIdentitityAddressInformation m e = unlisted
+on_event P.Success m e = ends (refuses R.Finished)
+on_event (P.Error f) m e = ends (refuses R.Finished)
 
 abbrev pub responder : Role State
 responder =
@@ -63,7 +62,7 @@ responder =
       finished = λ m. finished_phase m.phase;
       failed = λ m f. at m (P.Error f);
       commanded = λ m code body. on_command m.phase m code body;
-      raised = λ m e o. on_event m.phase m e o;
+      raised = λ m e. on_event m.phase m e;
     }
 
 -- Contracts

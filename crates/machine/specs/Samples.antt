@@ -1,5 +1,5 @@
 -- The scope's sample pairings, P1 to P10, as one table: what comes in, and what comes of it.
-use Rattle.std.specs.Prelude.{ℕ, List, [], ◌∷◌, ◌++◌, map, Bool, true, false, replicate}
+use Rattle.std.specs.Prelude.{ℕ, List, [], ◌∷◌, ◌++◌, map, Bool, true, false, replicate, None}
 use Rattle.octets.specs.Octets.{zeros}
 use Rattle.features.specs.declared.IoCapabilities.{IoCapabilities}
 use Rattle.features.specs.declared.IoCapabilities.TheVariants.{DisplayOnly, DisplayYesNo}
@@ -17,7 +17,6 @@ use Rattle.method.specs.Method.{method_of}
 use Rattle.frames.specs.Packets.{public_key_code, framed, channel}
 use Rattle.protocol.specs.declared.Answer.{Answer}
 use Rattle.protocol.specs.declared.Answer.TheVariants as A
-use Rattle.protocol.specs.declared.Configured.TheVariants as C
 use Rattle.protocol.specs.declared.Event.TheVariants as I
 use Rattle.protocol.specs.declared.Failure.TheVariants as F
 use Rattle.protocol.specs.declared.Setup.{Setup}
@@ -28,7 +27,7 @@ use Rattle.protocol.specs.Role.{Input, command, event, step}
 use Rattle.machine.specs.declared.Phase.{Phase}
 use Rattle.machine.specs.declared.Phase.TheVariants as P
 use Rattle.machine.specs.declared.State.{State}
-use Rattle.machine.specs.State.{bondless, fresh_state}
+use Rattle.machine.specs.State.{fresh_state}
 use Rattle.machine.specs.Responder.{responder}
 
 -- An answer, by the scope's number
@@ -80,7 +79,7 @@ said (row s r) = r
 -- a DisplayOnly, bonding box without OOB data and with an IRK
 abbrev box : Setup
 box =
-    record { io = DisplayOnly; oob = NotPresent; bonding = true; passkey = C.Nothing; keyx = zeros 32; keyy = zeros 32; irk = replicate 16 1; own = nowhere; identity = nowhere; peer = nowhere; known = bondless }
+    record { io = DisplayOnly; oob = NotPresent; bonding = true; passkey = None; keyx = zeros 32; keyy = zeros 32; irk = replicate 16 1; own = nowhere; identity = nowhere; peer = nowhere; known = None }
 
 -- it, in a phase and with a method
 abbrev standing : Phase → PairingMethod → State
@@ -119,7 +118,7 @@ confirm = 0x11 ∷ 0x00 ∷ 0x06 ∷ 0x00 ∷ 0x03 ∷ replicate 16 0
 
 -- a passkey typed at the box
 abbrev entered : ℕ → Sample
-entered p = call (standing (P.WaitingPassKeyInput false) typed) (event (I.PassKeyInput p) (record { ownrandom = zeros 16; peerrandom = zeros 16; peerconfirm = zeros 16 })) 0 90
+entered p = call (standing (P.WaitingPassKeyInput false) typed) (event (I.PassKeyInput p)) 0 90
 
 -- features of which the choice reads IO, OOB and MITM
 abbrev features : IoCapabilities → UseOutOfBand → Bool → PairingFeatures

@@ -1,14 +1,13 @@
 -- The responder's state: parts of it set anew, what is left of it without its setup, and the state before anything has come.
-use Rattle.std.specs.Prelude.{Bool, true, false}
+use Rattle.std.specs.Prelude.{Bool, true, false, Option, None}
 use Rattle.octets.specs.Octets.{zeros}
 use Rattle.features.specs.declared.IoCapabilities.TheVariants.{NoInputNoOutput}
 use Rattle.features.specs.declared.PairingFeatures.{PairingFeatures}
 use Rattle.features.specs.declared.UseOutOfBand.TheVariants.{NotPresent}
 use Rattle.method.specs.declared.PairingMethod.TheVariants.{JustWorks}
-use Rattle.protocol.specs.declared.MaybeBond.{MaybeBond}
+use Rattle.protocol.specs.declared.Bond.{Bond}
 use Rattle.protocol.specs.declared.Secrets.{Secrets}
 use Rattle.protocol.specs.declared.Setup.{Setup}
-use Rattle.protocol.specs.Plan.{no_bond}
 use Rattle.protocol.specs.Exchanged.{fresh}
 use Rattle.machine.specs.declared.Phase.{Phase}
 use Rattle.machine.specs.declared.Phase.TheVariants as P
@@ -24,7 +23,7 @@ abbrev pub to : State → Phase → Secrets → State
 to m p s = record { phase = p; setup = m.setup; features = m.features; method = m.method; secrets = s; bond = m.bond; peer = m.peer }
 
 -- with another bond
-abbrev pub bonded : State → MaybeBond → State
+abbrev pub bonded : State → Option Bond → State
 bonded m b = record { phase = m.phase; setup = m.setup; features = m.features; method = m.method; secrets = m.secrets; bond = b; peer = m.peer }
 
 -- all but the setup, and a state again
@@ -58,9 +57,6 @@ finished_phase P.WaitingIdentitityAddressInformation = false
 abbrev pub no_features : PairingFeatures
 no_features = record { io = NoInputNoOutput; oob = NotPresent; authreq = 0; keysize = 16; initiator = 0; responder = 0 }
 
-abbrev pub bondless : MaybeBond
-bondless = record { there = false; bond = no_bond }
-
 -- a fresh machine awaits a request, with method JustWorks
 abbrev pub fresh_state : Setup → State
 fresh_state s =
@@ -70,6 +66,6 @@ fresh_state s =
       features = no_features;
       method = JustWorks;
       secrets = fresh (zeros 32) (zeros 32);
-      bond = bondless;
+      bond = None;
       peer = s.peer;
     }

@@ -1,5 +1,5 @@
 -- Sample runs: for each method a pairing that takes as many calls as that method can take, and some that meet the other premises.
-use Rattle.std.specs.Prelude.{ℕ, zero, suc, ◌-◌, List, [], ◌∷◌, ◌++◌, map, Bool, true, false, length, replicate}
+use Rattle.std.specs.Prelude.{ℕ, zero, suc, ◌-◌, List, [], ◌∷◌, ◌++◌, map, Bool, true, false, length, replicate, None}
 use Rattle.octets.specs.Octets.{zeros}
 use Rattle.features.specs.declared.IoCapabilities.{IoCapabilities}
 use Rattle.features.specs.declared.IoCapabilities.TheVariants.{DisplayOnly, DisplayYesNo, KeyboardOnly, NoInputNoOutput}
@@ -9,22 +9,22 @@ use Rattle.method.specs.declared.PairingMethod.{PairingMethod}
 use Rattle.method.specs.declared.PairingMethod.TheVariants.{JustWorks, NumericComparison, PassKeyEntry, OutOfBand}
 use Rattle.method.specs.declared.PassKeyEntryAction.TheVariants as W
 use Rattle.frames.specs.Packets.{request_code, public_key_code, confirm_code, random_code, check_code, identity_information_code, identity_address_code}
-use Rattle.protocol.specs.declared.Configured.TheVariants as C
 use Rattle.protocol.specs.declared.Event.{Event}
 use Rattle.protocol.specs.declared.Event.TheVariants as I
+use Rattle.protocol.specs.declared.OobData.{OobData}
 use Rattle.protocol.specs.declared.Setup.{Setup}
 use Rattle.protocol.specs.declared.Supplied.{Supplied}
 use Rattle.protocol.specs.Plan.{nowhere}
 use Rattle.protocol.specs.Role.{Call, command, event, enough}
 use Rattle.machine.specs.declared.Phase.{Phase}
 use Rattle.machine.specs.declared.Phase.TheVariants as P
-use Rattle.machine.specs.State.{bondless, finished_phase, fresh_state}
+use Rattle.machine.specs.State.{finished_phase, fresh_state}
 use Rattle.machine.specs.Run.{begun, taken, trace}
 
 -- a box, by its IO and OOB
 abbrev pub box : IoCapabilities → UseOutOfBand → Setup
 box io oob =
-    record { io = io; oob = oob; bonding = true; passkey = C.Nothing; keyx = zeros 32; keyy = zeros 32; irk = zeros 16; own = nowhere; identity = nowhere; peer = nowhere; known = bondless }
+    record { io = io; oob = oob; bonding = true; passkey = None; keyx = zeros 32; keyy = zeros 32; irk = zeros 16; own = nowhere; identity = nowhere; peer = nowhere; known = None }
 
 -- a value as it travels, and as it is supplied
 abbrev pub sixteen : List ℕ
@@ -42,7 +42,7 @@ abbrev pub tell : ℕ → List ℕ → Call
 tell k w = record { input = command (k ∷ w); supplied = given turned; room = enough }
 
 abbrev pub raise : Event → Call
-raise e = record { input = event e (record { ownrandom = zeros 16; peerrandom = zeros 16; peerconfirm = zeros 16 }); supplied = given turned; room = enough }
+raise e = record { input = event e; supplied = given turned; room = enough }
 
 -- a request of a peer with a keyboard and a display that asks MITM, with its initiator key bits
 abbrev pub asking : ℕ → Call
@@ -81,9 +81,12 @@ compared_run = asking 2 ∷ key ∷ tell random_code sixteen ∷ raise I.PassKey
 abbrev pub held_run : List Call
 held_run = asking 2 ∷ key ∷ tell random_code sixteen ∷ tell check_code sixteen ∷ raise I.PassKeyConfirm ∷ identity
 
--- out of band: 8
+-- out of band, with no data of the peer's: 8
+abbrev pub absent_data : OobData
+absent_data = record { ownrandom = zeros 16; peerrandom = zeros 16; peerconfirm = zeros 16 }
+
 abbrev pub oob_run : List Call
-oob_run = asking 2 ∷ key ∷ raise I.OobDataReceived ∷ tell random_code sixteen ∷ ending
+oob_run = asking 2 ∷ key ∷ raise (I.OobDataReceived absent_data) ∷ tell random_code sixteen ∷ ending
 
 -- Just Works: 7, and 5 where the peer's initiator bit is not set
 abbrev pub works_run : List Call

@@ -5,7 +5,7 @@
 use address::Address;
 use features::PairingFeatures;
 use method::PairingMethod;
-use protocol::{Action, Answer, ConnectionEvent, Failure, MaybeBond, Secrets, Setup};
+use protocol::{Action, Answer, Bond, ConnectionEvent, Failure, Secrets, Setup};
 
 // What the machine waits for. The flag of a phase that can hold an early payload says whether it does; the number is the round.
 #[derive(Clone, Copy)]
@@ -35,7 +35,7 @@ pub struct State {
     pub features: PairingFeatures,
     pub method: PairingMethod,
     pub secrets: Secrets,
-    pub bond: MaybeBond,
+    pub bond: Option<Bond>,
     pub peer: Address,
 }
 
@@ -46,18 +46,18 @@ pub struct Progress {
     pub features: PairingFeatures,
     pub method: PairingMethod,
     pub secrets: Secrets,
-    pub bond: MaybeBond,
+    pub bond: Option<Bond>,
     pub peer: Address,
 }
 
 // What a step gives back: the state after it but for its setup, how many octets stand in the outbox, the user's events in order, the action
-// and the answer. `first` is BondLost or nothing.
+// and the answer. `first` is BondLost or none.
 #[derive(Clone, Copy)]
 pub struct Step {
     pub progress: Progress,
     pub sent: usize,
-    pub first: ConnectionEvent,
-    pub second: ConnectionEvent,
-    pub action: Action,
+    pub first: Option<ConnectionEvent>,
+    pub second: Option<ConnectionEvent>,
+    pub action: Option<Action>,
     pub answer: Answer,
 }
