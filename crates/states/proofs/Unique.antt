@@ -4,8 +4,6 @@ use Rattle.states.proofs.at.Reads as at
 use Rattle.states.proofs.finished.Reads as finished
 use Rattle.states.proofs.fresh_secrets.Reads as fresh-secrets
 use Rattle.states.proofs.with_passkey.Reads as with-passkey
-use Rattle.states.proofs.no_bond.Reads as no-bond
-use Rattle.states.proofs.no_action.Reads as no-action
 use Rattle.states.proofs.in_range.Reads as in_range
 use Rattle.states.proofs.refused.Reads as refused
 use Rattle.states.proofs.failed.Reads as failed
@@ -28,12 +26,6 @@ fresh_secrets_unique κs a z z' e e' p q = only p q
 
 pub with_passkey_unique : Unique with-passkey.Post
 with_passkey_unique κs a z z' e e' p q = only p q
-
-pub no_bond_unique : Unique no-bond.Post
-no_bond_unique κs a z z' e e' p q = only p q
-
-pub no_action_unique : Unique no-action.Post
-no_action_unique κs a z z' e e' p q = only p q
 
 pub in_range_unique : Unique in_range.Post
 in_range_unique κs a z z' e e' p q = only p q
