@@ -1,13 +1,13 @@
-// A command's payload as it arrives: whether it is the one that a step awaits, by its code and its length, and what it holds. A step and the
-// query of its questions go by the same functions.
+// A command's payload as it arrives: what it holds where it is the one that a step awaits, by its code and its length, and else how the pairing
+// fails. A step and the query of its questions go by the same functions.
 #![tactic(auto)]
 
 ghost use Rattle.std.specs.Prelude.{◌≡◌, eqb, take, drop};
-ghost use Rattle.octets.specs.Octets.{turned};
+ghost use Rattle.octets.specs.Octets.{turned, flip};
 ghost use Rattle.frames.specs.Packets.{confirm_code, random_code, public_key_code};
 ghost use Rattle.protocol.specs.Parts.{is_value, is_key, verdict_of};
 
-use protocol::{Failure, Verdict};
+use protocol::Failure;
 
 // A payload that is one value: sixteen octets.
 pub fn is_value(payload: &[u8]) -> bool
@@ -17,21 +17,22 @@ pub fn is_value(payload: &[u8]) -> bool
 }
 
 // One value by an awaited code; another length is a failure of the step's own.
-pub fn value(awaited: u8, wrong: Failure, code: u8, payload: &[u8]) -> Verdict
-    ensures { result ≡ verdict_of (eqb code awaited) (is_value payload.now) wrong }
+#[tactic(auto, using(protocol::proofs::Follows::read_value), unfolding(protocol::specs::Parts::verdict_of))]
+pub fn value(awaited: u8, wrong: Failure, code: u8, payload: &[u8]) -> Result<[u8; 16], Failure>
+    ensures { result ≡ verdict_of (eqb code awaited) (is_value payload.now) wrong (flip payload.now) }
 {
     if code != awaited {
-        return Verdict::Wrong(Failure::InvalidState);
+        return Err(Failure::InvalidState);
     }
     if is_value(payload) {
-        return Verdict::Awaited;
+        return Ok(octets::reversed16(payload));
     }
-    Verdict::Wrong(wrong)
+    Err(wrong)
 }
 
 // Pairing Confirm of a round.
-pub fn confirm(code: u8, payload: &[u8]) -> Verdict
-    ensures { result ≡ verdict_of (eqb code confirm_code) (is_value payload.now) Failure.InvalidParameters }
+pub fn confirm(code: u8, payload: &[u8]) -> Result<[u8; 16], Failure>
+    ensures { result ≡ verdict_of (eqb code confirm_code) (is_value payload.now) Failure.InvalidParameters (flip payload.now) }
 {
     value(
         frames::PAIRING_CONFIRM,
@@ -42,8 +43,8 @@ pub fn confirm(code: u8, payload: &[u8]) -> Verdict
 }
 
 // Pairing Random of a round, and of a comparison.
-pub fn random(code: u8, payload: &[u8]) -> Verdict
-    ensures { result ≡ verdict_of (eqb code random_code) (is_value payload.now) Failure.InvalidParameters }
+pub fn random(code: u8, payload: &[u8]) -> Result<[u8; 16], Failure>
+    ensures { result ≡ verdict_of (eqb code random_code) (is_value payload.now) Failure.InvalidParameters (flip payload.now) }
 {
     value(
         frames::PAIRING_RANDOM,
@@ -54,16 +55,17 @@ pub fn random(code: u8, payload: &[u8]) -> Verdict
 }
 
 // Pairing Public Key (Part H 3.5.6): two coordinates, each of 32 octets, least significant first.
-pub fn public_key(code: u8, payload: &[u8]) -> Verdict
-    ensures { result ≡ verdict_of (eqb code public_key_code) (is_key payload.now) Failure.InvalidParameters }
+#[tactic(auto, unfolding(protocol::specs::Parts::verdict_of))]
+pub fn public_key(code: u8, payload: &[u8]) -> Result<(), Failure>
+    ensures { result ≡ verdict_of (eqb code public_key_code) (is_key payload.now) Failure.InvalidParameters tt }
 {
     if code != frames::PUBLIC_KEY {
-        return Verdict::Wrong(Failure::InvalidState);
+        return Err(Failure::InvalidState);
     }
     if payload.len() != 64 {
-        return Verdict::Wrong(Failure::InvalidParameters);
+        return Err(Failure::InvalidParameters);
     }
-    Verdict::Awaited
+    Ok(())
 }
 
 // The x coordinate of a public key of 64 octets, and the y coordinate; zeros where there are fewer, or other, octets.
