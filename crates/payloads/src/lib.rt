@@ -25,7 +25,7 @@ pub fn value(awaited: u8, wrong: Failure, code: u8, payload: &[u8]) -> Result<[u
         return Err(Failure::InvalidState);
     }
     if is_value(payload) {
-        return Ok(octets::reversed16(payload));
+        return Ok(octets::reversed(payload));
     }
     Err(wrong)
 }
