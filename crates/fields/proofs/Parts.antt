@@ -2,7 +2,7 @@
 use mathlib.Core.Path.{◌≡◌, refl, sym, ap, ◌∙◌}
 use mathlib.Core.List.{List, [], ◌∷◌, ◌++◌, append-nil, append_assoc}
 use mathlib.Core.Bool.{Bool, true, false}
-use Prim.Native.Nat.{ℕ, suc, ◌+◌, ◌*◌, ◌-◌, ◌≤◌, ◌<◌}
+use Prim.Native.Nat.{ℕ, suc, ◌+◌, ◌*◌, ◌-◌, ◌/◌, ◌%◌, ◌≤◌, ◌<◌}
 use native.Mathlib.Omega.{arith}
 use native.Mathlib.Numerals.{add-one}
 use lib.ListN.{length, take, drop, get_or, length-append, length-drop, drop_of_length-le, get_or-eq_default}
@@ -11,7 +11,8 @@ use lib.Dec.{leb, ltb}
 use borrow.Author.Tests.{le-leb, lt-leb, leb-true, ltb-true, ltb-false}
 use Rattle.octets.specs.Write.{over, laid, Wrote}
 use Rattle.octets.proofs.Write.{laid_room, over_whole, whole, written}
-use Rattle.fields.specs.Fields.{number, number_at, filled, join, placed, Placed}
+use Rattle.std.specs.Int.{w16, w32, to_le_bytes}
+use Rattle.fields.specs.Fields.{little, number, number_at, filled, join, placed, Placed}
 
 -- Bytes and numbers
 
@@ -57,6 +58,21 @@ four_bytes at l =
     let d : at + 3 ≡ suc (suc (suc at)) = omega arith in
     rw (a, b, d)
     (omega (arith, number_more 3 at l, number_more 2 (suc at) l, number_more 1 (suc (suc at)) l, number_more 0 (suc (suc (suc at))) l))
+
+-- the bytes of a number, as `to_le_bytes` gives them
+pub two_little : (n : ℕ) → to_le_bytes w16 (n % 65536) ≡ little 2 n
+unfolding little
+two_little n =
+    let a : n % 65536 % 256 ≡ n % 256 = omega arith in
+    let b : n % 65536 / 256 % 256 ≡ n / 256 % 256 = omega arith in
+    rw (a, b) refl
+
+pub four_little : (n : ℕ) → to_le_bytes w32 n ≡ little 4 n
+unfolding little
+four_little n =
+    let a : n / 65536 % 256 ≡ n / 256 / 256 % 256 = omega arith in
+    let b : n / 16777216 % 256 ≡ n / 256 / 256 / 256 % 256 = omega arith in
+    rw (a, b) refl
 
 -- Byte strings
 

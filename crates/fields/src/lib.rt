@@ -9,10 +9,7 @@ ghost use Rattle.fields.specs.Fields.{little, number_at, filled, field, flag_num
 pub fn byte(p: &[u8], at: usize) -> u8
     ensures { result ≡ get_or p.now at 0 }
 {
-    if at < p.len() {
-        return p[at];
-    }
-    0
+    p.get(at).copied().unwrap_or(0)
 }
 
 // The number of two bytes at an offset.
@@ -20,9 +17,7 @@ pub fn half(p: &[u8], at: usize) -> usize
     ensures { result ≡ number_at 2 at p.now }
 {
     if at < p.len() {
-        let low = byte(p, at) as usize;
-        let high = byte(p, at + 1) as usize;
-        return low + 256 * high;
+        return u16::from_le_bytes([byte(p, at), byte(p, at + 1)]) as usize;
     }
     0
 }
@@ -32,101 +27,58 @@ pub fn word(p: &[u8], at: usize) -> u32
     ensures { result ≡ number_at 4 at p.now }
 {
     if at < p.len() {
-        let a = byte(p, at) as u32;
-        let b = byte(p, at + 1) as u32;
-        let c = byte(p, at + 2) as u32;
-        let d = byte(p, at + 3) as u32;
-        return a + 256 * (b + 256 * (c + 256 * d));
+        return u32::from_le_bytes([
+            byte(p, at),
+            byte(p, at + 1),
+            byte(p, at + 2),
+            byte(p, at + 3),
+        ]);
     }
     0
 }
 
-// Six bytes at an offset.
-pub fn six(p: &[u8], at: usize) -> [u8; 6]
-    ensures { result ≡ field 6 at p.now }
+// N bytes at an offset.
+pub fn array<const N: usize>(p: &[u8], at: usize) -> [u8; N]
+    ensures { result ≡ field N at p.now }
 {
-    let mut r = [0u8; 6];
+    let mut r = [0u8; N];
     fill(&mut r, p, at);
     r
 }
 
-// Sixteen bytes at an offset.
-pub fn sixteen(p: &[u8], at: usize) -> [u8; 16]
-    ensures { result ≡ field 16 at p.now }
+// Whether the byte at an offset is at most a limit.
+pub fn within(p: &[u8], at: usize, limit: u8) -> bool
+    ensures { result ≡ at_most at limit p.now }
 {
-    let mut r = [0u8; 16];
-    fill(&mut r, p, at);
-    r
-}
-
-// Thirty-two bytes at an offset.
-pub fn thirty_two(p: &[u8], at: usize) -> [u8; 32]
-    ensures { result ≡ field 32 at p.now }
-{
-    let mut r = [0u8; 32];
-    fill(&mut r, p, at);
-    r
-}
-
-// Whether the byte at an offset is at most a limit, and the rest holds too.
-pub fn within(p: &[u8], at: usize, limit: u8, rest: bool) -> bool
-    ensures { result ≡ (at_most at limit p.now && rest) }
-{
-    both(byte(p, at) <= limit, rest)
-}
-
-// Whether both hold.
-pub fn both(a: bool, b: bool) -> bool
-    ensures { result ≡ (a && b) }
-{
-    if a {
-        return b;
-    }
-    false
+    byte(p, at) <= limit
 }
 
 // A yes-or-no byte.
 pub fn flag(on: bool) -> u8
     ensures { (result ≡ flag_number on) × (result ≤ 1) }
 {
-    if on {
-        return 1;
-    }
-    0
+    u8::from(on)
 }
 
 // The four bytes of a number.
 pub fn bytes4(n: u32) -> [u8; 4]
     ensures { result ≡ little 4 n }
 {
-    let a = (n % 256) as u8;
-    let b = (n / 256 % 256) as u8;
-    let c = (n / 256 / 256 % 256) as u8;
-    let d = (n / 256 / 256 / 256 % 256) as u8;
-    [a, b, c, d]
+    n.to_le_bytes()
 }
 
 // The two bytes of a number's last sixteen bits.
 pub fn bytes2(n: usize) -> [u8; 2]
     ensures { result ≡ little 2 n }
 {
-    let a = (n % 256) as u8;
-    let b = (n / 256 % 256) as u8;
-    [a, b]
+    ((n % 65536) as u16).to_le_bytes()
 }
 
-// Sixteen bytes, written at an offset.
-pub fn place16(out: &mut [u8], at: usize, value: [u8; 16])
-    ensures { Placed 16 at value out.old out.new }
+// N bytes, written at an offset.
+pub fn place_array<const N: usize>(out: &mut [u8], at: usize, value: &[u8; N])
+    ensures { Placed N at value.now out.old out.new }
 {
-    place(out, at, &value);
-}
-
-// Thirty-two bytes, written at an offset.
-pub fn place32(out: &mut [u8], at: usize, value: [u8; 32])
-    ensures { Placed 32 at value out.old out.new }
-{
-    place(out, at, &value);
+    place(out, at, value);
 }
 
 // A byte string, written at an offset.

@@ -1,8 +1,7 @@
 -- `fields::bytes2` meets its contract. Assumes nothing.
-use mathlib.Core.Path.{refl}
-use Rattle.fields.specs.Fields.{little}
+use mathlib.Core.Path.{◌∙◌}
+use Rattle.fields.proofs.Parts.{two_little}
 use Rattle.fields.proofs.bytes2.Goals as goal
 
 pub returns : goal.returns
-unfolding little
-returns c = refl
+returns c = c.to_le_bytes.ensures ∙ two_little c.args.n

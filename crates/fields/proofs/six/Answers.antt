@@ -1,7 +1,0 @@
--- `fields::six` meets its contract. Assumes nothing.
-use Rattle.octets.specs.Octets.{zeros}
-use Rattle.fields.proofs.six.Goals as goal
-
-pub returns : goal.returns
-unfolding zeros
-returns c = c.fill.ensures
