@@ -4,7 +4,13 @@ use mathlib.Core.Bool.{Bool, true, false}
 use Prim.Native.Nat.{ℕ, zero, suc, ◌≤◌}
 use native.Mathlib.Omega.{arith}
 use lib.Dec.{eqb}
+use Rattle.std.specs.Int.{from_bool}
 use Rattle.fields.specs.Fields.{flag_number}
+
+-- as `u8::from` gives it
+pub flag_byte : (b : Bool) → from_bool b ≡ flag_number b
+flag_byte true = refl
+flag_byte false = refl
 
 pub flag_back : (b : Bool) → eqb (flag_number b) 1 ≡ b
 flag_back true = refl

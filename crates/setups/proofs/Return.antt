@@ -1,5 +1,6 @@
 -- Reading a setup that was written gives the setup again, and writing what was read gives the same payload. Assumes nothing.
 use mathlib.Core.Path.{◌≡◌, refl, sym, ap, ◌∙◌}
+use Rattle.std.specs.Prelude.{Some}
 use mathlib.Core.List.{List, [], ◌∷◌, append-nil}
 use mathlib.Core.Bool.{true, cond}
 use Prim.Native.Nat.{ℕ, zero, suc, ◌+◌, ◌≤◌, ◌<◌}
@@ -237,7 +238,7 @@ module _ (c : SetupCall) (s : Sound c) where
       (test_first _ _ (small 130 _ 1 bonded.kind (kind_small c.setup.known.bond.address.kind))
       test_none)))))))))))))
 
-  pub read_put : read_setup (setup_octets c) ≡ record { fits = true; call = c }
+  pub read_put : read_setup (setup_octets c) ≡ Some c
   unfolding read_setup setup_octets
   read_put = rw (le-leb c.outbox 512 s.outbox, fits, says)
 

@@ -1,5 +1,5 @@
 -- The payload of a setup: 153 bytes, rows and offsets as in docs/CALLS.md.
-use Rattle.std.specs.Prelude.{ℕ, ◌+◌, List, [], ◌∷◌, Bool, true, false, cond, length, get_or, eqb, leb}
+use Rattle.std.specs.Prelude.{ℕ, ◌+◌, List, [], ◌∷◌, Bool, true, cond, Option, Some, None, Result, Ok, Err, length, get_or, eqb, leb}
 use Rattle.address.specs.declared.Address.{Address}
 use Rattle.address.specs.declared.AddressKind.{AddressKind}
 use Rattle.address.specs.declared.AddressKind.TheVariants.{Public, Random}
@@ -14,7 +14,7 @@ use Rattle.protocol.specs.declared.Setup.{Setup}
 use Rattle.setups.specs.declared.StartKind.{StartKind}
 use Rattle.setups.specs.declared.StartKind.TheVariants.{Plain, ByUser, NotByUser}
 use Rattle.setups.specs.declared.SetupCall.{SetupCall}
-use Rattle.setups.specs.declared.ReadSetup.{ReadSetup}
+use Rattle.setups.specs.declared.UnknownStart.{UnknownStart}
 use Rattle.fields.specs.Fields.{little, number_at, field, flag_number, flag_at, one, join, every, at_most}
 
 -- an address: type, then six bytes
@@ -36,6 +36,9 @@ start_number NotByUser = 2
 
 abbrev pub start_of : ℕ → StartKind
 start_of n = cond (eqb n 0) Plain (cond (eqb n 1) ByUser NotByUser)
+
+abbrev pub numbered_start : ℕ → Result StartKind UnknownStart
+numbered_start n = cond (leb n 2) (Ok (start_of n)) (Err (record { 0 = n }))
 
 abbrev pub level_number : SecurityLevel → ℕ
 level_number NoEncryption = 0
@@ -139,6 +142,6 @@ setup_fits l =
     ∷ at_most 130 1 l
     ∷ [])
 
--- a payload that doesn't fit gives what an empty one says: zeros
-unfoldable pub read_setup : List ℕ → ReadSetup
-read_setup l = cond (setup_fits l) (record { fits = true; call = setup_call l }) (record { fits = false; call = setup_call [] })
+-- nothing in a payload that doesn't fit
+unfoldable pub read_setup : List ℕ → Option SetupCall
+read_setup l = cond (setup_fits l) (Some (setup_call l)) None

@@ -2,14 +2,15 @@
 // payload can carry.
 #![tactic(auto)]
 
-ghost use Rattle.std.specs.Prelude.{◌≡◌, ◌++◌, ◌≤◌, ◌<◌, length, get_or, take};
+ghost use Rattle.std.specs.Prelude.{◌≡◌, [], ◌∷◌, ◌++◌, ◌≤◌, ◌<◌, length, get_or, take};
 ghost use Rattle.octets.specs.Write.{Wrote};
-ghost use Rattle.fields.specs.Fields.{number_at, join, Placed};
+ghost use Rattle.fields.specs.Fields.{number_at, join, every, at_most, Placed};
 ghost use Rattle.setups.specs.Setup.{
   address_octets,
   kind_of,
   address_at,
   start_number,
+  numbered_start,
   start_of,
   level_number,
   level_of,
@@ -40,6 +41,37 @@ pub enum StartKind {
     NotByUser,
 }
 
+// A number that no kind of start has.
+#[derive(Clone, Copy, Debug, PartialEq, Eq)]
+pub struct UnknownStart(pub u8);
+
+impl From<StartKind> for u8 {
+    ghost from_gives = { λ start r. r ≡ start_number start };
+
+    fn from(start: StartKind) -> u8 {
+        match start {
+            StartKind::Plain => 0,
+            StartKind::ByUser => 1,
+            StartKind::NotByUser => 2,
+        }
+    }
+}
+
+impl TryFrom<u8> for StartKind {
+    type Error = UnknownStart;
+
+    ghost try_from_gives = { λ number r. r ≡ numbered_start number };
+
+    fn try_from(number: u8) -> Result<Self, UnknownStart> {
+        match number {
+            0 => Ok(StartKind::Plain),
+            1 => Ok(StartKind::ByUser),
+            2 => Ok(StartKind::NotByUser),
+            _ => Err(UnknownStart(number)),
+        }
+    }
+}
+
 // `outbox` is the outbox's length.
 #[derive(Clone, Copy)]
 pub struct SetupCall {
@@ -48,27 +80,14 @@ pub struct SetupCall {
     pub setup: Setup,
 }
 
-// A payload that doesn't fit gives the call of an empty one: zeros.
-#[derive(Clone, Copy)]
-pub struct ReadSetup {
-    pub fits: bool,
-    pub call: SetupCall,
-}
-
-// The setup in a payload.
-pub fn read_setup(payload: &[u8]) -> ReadSetup
+// The setup in a payload; none where the payload doesn't fit.
+pub fn read_setup(payload: &[u8]) -> Option<SetupCall>
     ensures { result ≡ read_setup payload.now }
 {
     if setup_fits(payload) {
-        return ReadSetup {
-            fits: true,
-            call: setup_call(payload),
-        };
+        return Some(setup_call(payload));
     }
-    ReadSetup {
-        fits: false,
-        call: setup_call(&payload[0..0]),
-    }
+    None
 }
 
 // Writes a setup's payload and answers 153. Where out is too short or the outbox's length above 512: nothing, and 0.
@@ -84,36 +103,31 @@ pub fn put_setup(out: &mut [u8], call: SetupCall) -> usize
 }
 
 // Whether a payload's length and ranges are right.
+#[tactic(auto, unfolding(fields::specs::Fields::every, crate::specs::Setup::setup_fits))]
 fn setup_fits(p: &[u8]) -> bool
     ensures { result ≡ setup_fits p.now }
 {
-    let bond = fields::within(
-        p,
-        112,
-        1,
-        fields::within(p, 129, 2, fields::within(p, 130, 1, true)),
-    );
-    let addresses = fields::within(
-        p,
-        91,
-        1,
-        fields::within(p, 98, 1, fields::within(p, 105, 1, bond)),
-    );
-    let passkey = fields::within(p, 6, 1, fields::both(passkey_fits(p), addresses));
-    let flags = fields::within(p, 4, 1, fields::within(p, 5, 1, passkey));
-    let cases = fields::within(p, 0, 2, fields::within(p, 3, 4, flags));
-    let outbox = fields::both(fields::half(p, 1) <= 512, cases);
-    fields::both(p.len() == 153, outbox)
+    p.len() == 153
+        && fields::half(p, 1) <= 512
+        && fields::within(p, 0, 2)
+        && fields::within(p, 3, 4)
+        && fields::within(p, 4, 1)
+        && fields::within(p, 5, 1)
+        && fields::within(p, 6, 1)
+        && passkey_fits(p)
+        && fields::within(p, 91, 1)
+        && fields::within(p, 98, 1)
+        && fields::within(p, 105, 1)
+        && fields::within(p, 112, 1)
+        && fields::within(p, 129, 2)
+        && fields::within(p, 130, 1)
 }
 
 // Where no passkey is configured its number is 0.
 fn passkey_fits(p: &[u8]) -> bool
     ensures { result ≡ passkey_fits p.now }
 {
-    if fields::byte(p, 6) == 0 {
-        return fields::word(p, 7) == 0;
-    }
-    true
+    fields::byte(p, 6) != 0 || fields::word(p, 7) == 0
 }
 
 // What a payload says.
@@ -121,7 +135,7 @@ fn setup_call(p: &[u8]) -> SetupCall
     ensures { result ≡ setup_call p.now }
 {
     SetupCall {
-        start: start_of(fields::byte(p, 0)),
+        start: StartKind::try_from(fields::byte(p, 0)).unwrap_or(StartKind::NotByUser),
         outbox: fields::half(p, 1),
         setup: setup_of(p),
     }
@@ -135,9 +149,9 @@ fn setup_of(p: &[u8]) -> Setup
         oob: features::oob_of(fields::byte(p, 4)),
         bonding: fields::byte(p, 5) == 1,
         passkey: configured_of(p),
-        keyx: fields::thirty_two(p, 11),
-        keyy: fields::thirty_two(p, 43),
-        irk: fields::sixteen(p, 75),
+        keyx: fields::array(p, 11),
+        keyy: fields::array(p, 43),
+        irk: fields::array(p, 75),
         own: address_of(p, 91),
         identity: address_of(p, 98),
         peer: address_of(p, 105),
@@ -151,10 +165,10 @@ fn bond_of(p: &[u8]) -> MaybeBond
     MaybeBond {
         there: fields::byte(p, 112) == 1,
         bond: Bond {
-            ltk: fields::sixteen(p, 113),
+            ltk: fields::array(p, 113),
             level: level_of(fields::byte(p, 129)),
             address: address_of(p, 130),
-            irk: fields::sixteen(p, 137),
+            irk: fields::array(p, 137),
         },
     }
 }
@@ -174,7 +188,7 @@ fn address_of(p: &[u8], at: usize) -> Address
 {
     Address {
         kind: address_kind_of(fields::byte(p, at)),
-        octets: fields::six(p, at + 1),
+        octets: fields::array(p, at + 1),
     }
 }
 
@@ -182,21 +196,17 @@ fn address_of(p: &[u8], at: usize) -> Address
 fn setup_head(call: SetupCall) -> [u8; 11]
     ensures { result ≡ join (take 7 (setup_rows call)) }
 {
-    let start = call.start;
     let setup = call.setup;
-    let io = setup.io;
-    let oob = setup.oob;
-    let passkey = setup.passkey;
     let outbox = fields::bytes2(call.outbox);
-    let digits = fields::bytes4(configured_passkey(passkey));
+    let digits = fields::bytes4(configured_passkey(setup.passkey));
     [
-        start_number(start),
+        u8::from(call.start),
         outbox[0],
         outbox[1],
-        u8::from(io),
-        u8::from(oob),
-        fields::flag(setup.bonding),
-        configured_number(passkey),
+        u8::from(setup.io),
+        u8::from(setup.oob),
+        u8::from(setup.bonding),
+        configured_number(setup.passkey),
         digits[0],
         digits[1],
         digits[2],
@@ -209,10 +219,8 @@ fn place_setup(out: &mut [u8], call: SetupCall)
     requires { 153 ≤ length out.old }
     ensures { Placed 153 0 (join (setup_rows call)) out.old out.new }
 {
-    let head = setup_head(call);
-    fields::place(out, 0, &head);
-    let setup = call.setup;
-    place_box(out, setup);
+    fields::place_array(out, 0, &setup_head(call));
+    place_box(out, call.setup);
 }
 
 // Our keys and the addresses, and the known bond.
@@ -220,18 +228,11 @@ fn place_box(out: &mut [u8], setup: Setup)
     requires { 153 ≤ length out.old }
     ensures { Placed 142 11 (join (box_rows setup)) out.old out.new }
 {
-    let x = setup.keyx;
-    let y = setup.keyy;
-    let irk = setup.irk;
-    let own = setup.own;
-    let identity = setup.identity;
-    let peer = setup.peer;
-    let known = setup.known;
-    fields::place32(out, 11, x);
-    fields::place32(out, 43, y);
-    fields::place16(out, 75, irk);
-    place_addresses(out, own, identity, peer);
-    place_bond(out, known);
+    fields::place_array(out, 11, &setup.keyx);
+    fields::place_array(out, 43, &setup.keyy);
+    fields::place_array(out, 75, &setup.irk);
+    place_addresses(out, setup.own, setup.identity, setup.peer);
+    place_bond(out, setup.known);
 }
 
 // The three addresses.
@@ -250,56 +251,30 @@ fn place_bond(out: &mut [u8], known: MaybeBond)
     ensures { Placed 41 112 (join (bond_rows known)) out.old out.new }
 {
     let bond = known.bond;
-    let ltk = bond.ltk;
-    let level = bond.level;
-    let address = bond.address;
-    let irk = bond.irk;
-    fields::place(out, 112, &[fields::flag(known.there)]);
-    fields::place16(out, 113, ltk);
-    fields::place(out, 129, &[level_number(level)]);
-    place_address(out, 130, address);
-    fields::place16(out, 137, irk);
+    fields::place_array(out, 112, &[u8::from(known.there)]);
+    fields::place_array(out, 113, &bond.ltk);
+    fields::place_array(out, 129, &[level_number(bond.level)]);
+    place_address(out, 130, bond.address);
+    fields::place_array(out, 137, &bond.irk);
 }
 
 // An address: type, then six bytes.
 fn place_address(out: &mut [u8], at: usize, address: Address)
     ensures { Placed 7 at (address_octets address) out.old out.new }
 {
-    let kind = address.kind;
     let o = address.octets;
-    let type_number = u8::from(kind);
-    fields::place(out, at, &[type_number, o[0], o[1], o[2], o[3], o[4], o[5]]);
+    let kind = u8::from(address.kind);
+    fields::place_array(out, at, &[kind, o[0], o[1], o[2], o[3], o[4], o[5]]);
 }
 
-fn start_number(start: StartKind) -> u8
-    ensures { result ≡ start_number start }
-{
-    match start {
-        StartKind::Plain => 0,
-        StartKind::ByUser => 1,
-        StartKind::NotByUser => 2,
-    }
-}
-
-fn start_of(number: u8) -> StartKind
-    ensures { result ≡ start_of number }
-{
-    if number == 0 {
-        return StartKind::Plain;
-    }
-    if number == 1 {
-        return StartKind::ByUser;
-    }
-    StartKind::NotByUser
-}
-
+// The numbers of docs/CALLS.md for types of other crates, which may not be given `From` and `TryFrom` here.
 fn address_kind_of(number: u8) -> AddressKind
     ensures { result ≡ kind_of number }
 {
-    if number == 0 {
-        return AddressKind::Public;
+    match number {
+        0 => AddressKind::Public,
+        _ => AddressKind::Random,
     }
-    AddressKind::Random
 }
 
 fn level_number(level: SecurityLevel) -> u8
@@ -315,13 +290,11 @@ fn level_number(level: SecurityLevel) -> u8
 fn level_of(number: u8) -> SecurityLevel
     ensures { result ≡ level_of number }
 {
-    if number == 0 {
-        return SecurityLevel::NoEncryption;
+    match number {
+        0 => SecurityLevel::NoEncryption,
+        1 => SecurityLevel::Encrypted,
+        _ => SecurityLevel::EncryptedAuthenticated,
     }
-    if number == 1 {
-        return SecurityLevel::Encrypted;
-    }
-    SecurityLevel::EncryptedAuthenticated
 }
 
 fn configured_number(passkey: Configured) -> u8

@@ -6,9 +6,9 @@ use Rattle.setups.proofs.place_box.Goals as goal
 
 pub returns : goal.returns
 returns c =
-    let f = first 142 c.place32.ensures c.requires in
-    let f = more f c.place32-2.ensures refl in
-    let f = more f c.place16.ensures refl in
+    let f = first 142 c.place_array.ensures c.requires in
+    let f = more f c.place_array-2.ensures refl in
+    let f = more f c.place_array-3.ensures refl in
     let f = more f c.place_addresses.ensures refl in
     let f = more f c.place_bond.ensures refl in
     as_rows _ f.placed (box_rows_lem c.args.setup)

@@ -9,4 +9,4 @@ returns-then-setup_fits c = rw (sym c.setup_fits.ensures ∙ c.if-setup_fits.tru
 
 pub returns : goal.returns
 unfolding read_setup
-returns c = rw (sym c.setup_fits.ensures ∙ c.if-setup_fits.false, c.setup_call-2.ensures)
+returns c = rw (sym c.setup_fits.ensures ∙ c.if-setup_fits.false)
