@@ -11,6 +11,7 @@ use borrow.Author.Tests.{eq-eqb, ne_eqb, le-leb, eqb-true, leb-true}
 use Rattle.protocol.specs.declared.Event.{Event}
 use Rattle.protocol.specs.declared.Event.TheVariants.{LinkEncryptedResult, PassKeyConfirm, PassKeyCancel, PassKeyInput, OobDataReceived}
 use Rattle.protocol.specs.declared.Given.{Given}
+use Rattle.std.specs.Prelude.{Some}
 use Rattle.fields.specs.Fields.{little, number, number_at, field, flag_number, one, join}
 use Rattle.fields.proofs.Cut.{cut_at, lengths, total, row_eq, cut_join, join_cut, length_join, field_there, byte_of, byte_row, number_two, number_four, Below, number_row, test_none, test_first, test_at}
 use Rattle.fields.proofs.Flags.{flag_back, flag_small, flag_number_lem}
@@ -245,7 +246,7 @@ module _ (l : List ℕ) (b : Below l) (f : call_fits l ≡ true) where
 
 -- Commands
 module _ (c : Call) (s : Sound c) (cmd : List ℕ) (h : length cmd ≤ 356) where
-  pub read_put_command : read_command (command_octets c cmd) ≡ record { fits = true; call = c }
+  pub read_put_command : read_command (command_octets c cmd) ≡ Some c
   unfolding read_command command_octets command_fits
   read_put_command =
       let n : length (join (call_rows c) ++ cmd) ≤ 512 = omega (arith, length-append (join (call_rows c)) cmd, size c s cmd) in
@@ -309,7 +310,7 @@ module _ (c : EventCall) (s : Sound c.call) (z : lengths (event_rows c) ≡ even
         at_end 16 193 _ (omega arith) (behind 4),
       )
 
-  pub read_put_event : read_event (event_octets c) ≡ record { fits = true; call = c }
+  pub read_put_event : read_event (event_octets c) ≡ Some c
   unfolding read_event event_octets event_fits
   read_put_event =
       rw (le-leb c.call.outbox 512 s.outbox, eq-eqb _ _ event_size, fits c.call s (join (event_rows c)), kind, value, event_fits_lem c.came, event_says)

@@ -1,14 +1,12 @@
 -- The payloads of commands and events, rows and offsets as in docs/CALLS.md. Both begin with the outbox's length and the supplied values,
 -- 156 bytes. The supplied values' offsets are two more than in their own table.
-use Rattle.std.specs.Prelude.{ℕ, ◌+◌, ◌*◌, ◌/◌, ◌%◌, List, [], ◌∷◌, ◌++◌, Bool, true, false, cond, length, get_or, eqb, leb}
+use Rattle.std.specs.Prelude.{ℕ, ◌+◌, ◌*◌, ◌/◌, ◌%◌, List, [], ◌∷◌, ◌++◌, Bool, true, false, cond, Option, Some, None, length, get_or, eqb, leb}
 use Rattle.protocol.specs.declared.Event.{Event}
 use Rattle.protocol.specs.declared.Event.TheVariants.{LinkEncryptedResult, PassKeyConfirm, PassKeyCancel, PassKeyInput, OobDataReceived}
 use Rattle.protocol.specs.declared.Given.{Given}
 use Rattle.protocol.specs.declared.Supplied.{Supplied}
 use Rattle.inputs.specs.declared.Call.{Call}
-use Rattle.inputs.specs.declared.ReadCommand.{ReadCommand}
 use Rattle.inputs.specs.declared.EventCall.{EventCall}
-use Rattle.inputs.specs.declared.ReadEvent.{ReadEvent}
 use Rattle.fields.specs.Fields.{little, number_at, field, flag_number, flag_at, one, join, every, at_most}
 
 -- which answers are given: a bit each
@@ -85,9 +83,9 @@ command_octets c cmd = cond (leb c.outbox 512) (cond (leb (length cmd) 356) (joi
 unfoldable pub command_fits : List ℕ → Bool
 command_fits l = cond (leb (length l) 512) (call_fits l) false
 
--- a payload that doesn't fit gives what an empty one says: zeros
-unfoldable pub read_command : List ℕ → ReadCommand
-read_command l = cond (command_fits l) (record { fits = true; call = call_at l }) (record { fits = false; call = call_at [] })
+-- nothing in a payload that doesn't fit
+unfoldable pub read_command : List ℕ → Option Call
+read_command l = cond (command_fits l) (Some (call_at l)) None
 
 -- An event: its byte, its number and the out-of-band values
 
@@ -148,6 +146,6 @@ event_call l =
 unfoldable pub event_fits : List ℕ → Bool
 event_fits l = cond (eqb (length l) 209) (cond (call_fits l) (number_fits (get_or l 156 0) (number_at 4 157 l)) false) false
 
--- a payload that doesn't fit gives what an empty one says: zeros
-unfoldable pub read_event : List ℕ → ReadEvent
-read_event l = cond (event_fits l) (record { fits = true; call = event_call l }) (record { fits = false; call = event_call [] })
+-- nothing in a payload that doesn't fit
+unfoldable pub read_event : List ℕ → Option EventCall
+read_event l = cond (event_fits l) (Some (event_call l)) None

@@ -36,13 +36,6 @@ pub struct Call {
     pub supplied: Supplied,
 }
 
-// A payload that doesn't fit gives the call of an empty one: zeros.
-#[derive(Clone, Copy)]
-pub struct ReadCommand {
-    pub fits: bool,
-    pub call: Call,
-}
-
 // An event, and the out-of-band values that OobDataReceived reads.
 #[derive(Clone, Copy)]
 pub struct EventCall {
@@ -51,27 +44,15 @@ pub struct EventCall {
     pub values: OobData,
 }
 
-// A payload that doesn't fit gives the call of an empty one: zeros, and OobDataReceived.
-#[derive(Clone, Copy)]
-pub struct ReadEvent {
-    pub fits: bool,
-    pub call: EventCall,
-}
-
-// What comes before the command in a command's payload; the command is what stands from offset 156 on.
-pub fn read_command(payload: &[u8]) -> ReadCommand
+// What comes before the command in a command's payload, none where the payload doesn't fit; the command is what stands from offset 156 on.
+#[tactic(auto, unfolding(crate::specs::Input::read_command))]
+pub fn read_command(payload: &[u8]) -> Option<Call>
     ensures { result ≡ read_command payload.now }
 {
     if command_fits(payload) {
-        return ReadCommand {
-            fits: true,
-            call: call_of(payload),
-        };
+        return Some(call_of(payload));
     }
-    ReadCommand {
-        fits: false,
-        call: call_of(&payload[0..0]),
-    }
+    None
 }
 
 // Writes a command's payload and answers its length. Where out is too short, the outbox's length above 512 or the command above 356
@@ -96,28 +77,22 @@ pub fn put_command(out: &mut [u8], call: Call, cmd: &[u8]) -> usize
     156 + n
 }
 
-// The event in a payload.
-pub fn read_event(payload: &[u8]) -> ReadEvent
+// The event in a payload; none where the payload doesn't fit.
+#[tactic(auto, unfolding(crate::specs::Input::read_event))]
+pub fn read_event(payload: &[u8]) -> Option<EventCall>
     ensures { result ≡ read_event payload.now }
 {
     if event_fits(payload) {
-        return ReadEvent {
-            fits: true,
-            call: event_call(payload),
-        };
+        return Some(event_call(payload));
     }
-    ReadEvent {
-        fits: false,
-        call: event_call(&payload[0..0]),
-    }
+    None
 }
 
 // Writes an event's payload and answers 209. Where out is too short or the outbox's length above 512: nothing, and 0.
 pub fn put_event(out: &mut [u8], call: EventCall) -> usize
     ensures { Wrote (event_octets call) out.old result out.new }
 {
-    let common = call.call;
-    if 512 < common.outbox {
+    if 512 < call.call.outbox {
         return 0;
     }
     let mut payload = [0u8; 209];
@@ -126,38 +101,34 @@ pub fn put_event(out: &mut [u8], call: EventCall) -> usize
 }
 
 // Whether a command's length and ranges are right.
+#[tactic(auto, unfolding(crate::specs::Input::command_fits))]
 fn command_fits(p: &[u8]) -> bool
     ensures { result ≡ command_fits p.now }
 {
-    if 512 < p.len() {
-        return false;
-    }
-    call_fits(p)
+    p.len() <= 512 && call_fits(p)
 }
 
 // Whether an event's length and ranges are right.
+#[tactic(auto, unfolding(crate::specs::Input::event_fits))]
 fn event_fits(p: &[u8]) -> bool
     ensures { result ≡ event_fits p.now }
 {
-    if p.len() != 209 {
-        return false;
-    }
-    if call_fits(p) {
-        return number_fits(fields::byte(p, 156), fields::word(p, 157));
-    }
-    false
+    p.len() == 209 && call_fits(p) && number_fits(fields::byte(p, 156), fields::word(p, 157))
 }
 
 // Whether the first 156 bytes are there and in range.
+#[tactic(auto, unfolding(fields::specs::Fields::every, crate::specs::Input::call_fits))]
 fn call_fits(p: &[u8]) -> bool
     ensures { result ≡ call_fits p.now }
 {
-    let bytes = fields::within(p, 2, 127, fields::within(p, 23, 1, true));
-    let outbox = fields::both(fields::half(p, 0) <= 512, bytes);
-    fields::both(156 <= p.len(), outbox)
+    156 <= p.len()
+        && fields::half(p, 0) <= 512
+        && fields::within(p, 2, 127)
+        && fields::within(p, 23, 1)
 }
 
 // What the first 156 bytes say.
+#[tactic(auto, unfolding(crate::specs::Input::call_at))]
 fn call_of(p: &[u8]) -> Call
     ensures { result ≡ call_at p.now }
 {
@@ -187,20 +158,21 @@ fn supplied_of(p: &[u8]) -> Supplied
     ensures { result ≡ supplied_at p.now }
 {
     Supplied {
-        nonce: fields::sixteen(p, 3),
+        nonce: fields::array(p, 3),
         passkey: fields::word(p, 19),
         dhvalid: fields::byte(p, 23) == 1,
-        dhkey: fields::thirty_two(p, 24),
-        ownconfirm: fields::sixteen(p, 56),
-        peerconfirm: fields::sixteen(p, 72),
+        dhkey: fields::array(p, 24),
+        ownconfirm: fields::array(p, 56),
+        peerconfirm: fields::array(p, 72),
         g2: fields::word(p, 88),
-        mackey: fields::sixteen(p, 92),
-        ltk: fields::sixteen(p, 108),
-        peercheck: fields::sixteen(p, 124),
-        owncheck: fields::sixteen(p, 140),
+        mackey: fields::array(p, 92),
+        ltk: fields::array(p, 108),
+        peercheck: fields::array(p, 124),
+        owncheck: fields::array(p, 140),
     }
 }
 
+#[tactic(auto, unfolding(crate::specs::Input::event_call))]
 fn event_call(p: &[u8]) -> EventCall
     ensures { result ≡ event_call p.now }
 {
@@ -208,9 +180,9 @@ fn event_call(p: &[u8]) -> EventCall
         call: call_of(p),
         came: event_of(fields::byte(p, 156), fields::word(p, 157)),
         values: OobData {
-            ownrandom: fields::sixteen(p, 161),
-            peerrandom: fields::sixteen(p, 177),
-            peerconfirm: fields::sixteen(p, 193),
+            ownrandom: fields::array(p, 161),
+            peerrandom: fields::array(p, 177),
+            peerconfirm: fields::array(p, 193),
         },
     }
 }
@@ -220,15 +192,11 @@ fn place_call(out: &mut [u8], call: Call)
     requires { 156 ≤ length out.old }
     ensures { Placed 156 0 (join (call_rows call)) out.old out.new }
 {
-    let supplied = call.supplied;
-    let dhkey = supplied.dhkey;
-    let own_confirm = supplied.ownconfirm;
-    let peer_confirm = supplied.peerconfirm;
     place_drawn(out, call);
-    fields::place32(out, 24, dhkey);
-    fields::place16(out, 56, own_confirm);
-    fields::place16(out, 72, peer_confirm);
-    fields::place(out, 88, &fields::bytes4(supplied.g2));
+    fields::place_array(out, 24, &call.supplied.dhkey);
+    fields::place_array(out, 56, &call.supplied.ownconfirm);
+    fields::place_array(out, 72, &call.supplied.peerconfirm);
+    fields::place_array(out, 88, &fields::bytes4(call.supplied.g2));
     place_checks(out, call);
 }
 
@@ -237,14 +205,11 @@ fn place_drawn(out: &mut [u8], call: Call)
     requires { 156 ≤ length out.old }
     ensures { Placed 24 0 (join (take 5 (call_rows call))) out.old out.new }
 {
-    let given = call.given;
-    let supplied = call.supplied;
-    let nonce = supplied.nonce;
-    fields::place(out, 0, &fields::bytes2(call.outbox));
-    fields::place(out, 2, &[given_number(given)]);
-    fields::place16(out, 3, nonce);
-    fields::place(out, 19, &fields::bytes4(supplied.passkey));
-    fields::place(out, 23, &[fields::flag(supplied.dhvalid)]);
+    fields::place_array(out, 0, &fields::bytes2(call.outbox));
+    fields::place_array(out, 2, &[given_number(call.given)]);
+    fields::place_array(out, 3, &call.supplied.nonce);
+    fields::place_array(out, 19, &fields::bytes4(call.supplied.passkey));
+    fields::place_array(out, 23, &[u8::from(call.supplied.dhvalid)]);
 }
 
 // The answers of f5 and f6.
@@ -252,15 +217,10 @@ fn place_checks(out: &mut [u8], call: Call)
     requires { 156 ≤ length out.old }
     ensures { Placed 64 92 (join (drop 9 (call_rows call))) out.old out.new }
 {
-    let supplied = call.supplied;
-    let mackey = supplied.mackey;
-    let ltk = supplied.ltk;
-    let peer_check = supplied.peercheck;
-    let own_check = supplied.owncheck;
-    fields::place16(out, 92, mackey);
-    fields::place16(out, 108, ltk);
-    fields::place16(out, 124, peer_check);
-    fields::place16(out, 140, own_check);
+    fields::place_array(out, 92, &call.supplied.mackey);
+    fields::place_array(out, 108, &call.supplied.ltk);
+    fields::place_array(out, 124, &call.supplied.peercheck);
+    fields::place_array(out, 140, &call.supplied.owncheck);
 }
 
 // All 209 bytes.
@@ -268,31 +228,23 @@ fn place_event(out: &mut [u8], call: EventCall)
     requires { 209 ≤ length out.old }
     ensures { Placed 209 0 (join (call_rows call.call) ++ join (event_rows call)) out.old out.new }
 {
-    let common = call.call;
-    let came = call.came;
-    let values = call.values;
-    let own_random = values.ownrandom;
-    let peer_random = values.peerrandom;
-    let peer_confirm = values.peerconfirm;
-    let head = event_head(came);
-    place_call(out, common);
-    fields::place(out, 156, &head);
-    fields::place16(out, 161, own_random);
-    fields::place16(out, 177, peer_random);
-    fields::place16(out, 193, peer_confirm);
+    place_call(out, call.call);
+    fields::place_array(out, 156, &event_head(call.came));
+    fields::place_array(out, 161, &call.values.ownrandom);
+    fields::place_array(out, 177, &call.values.peerrandom);
+    fields::place_array(out, 193, &call.values.peerconfirm);
 }
 
 fn given_number(given: Given) -> u8
     ensures { result ≡ given_number given }
 {
-    let dh = fields::flag(given.dh);
-    let own_confirm = fields::flag(given.ownconfirm);
-    let peer_confirm = fields::flag(given.peerconfirm);
-    let g2 = fields::flag(given.g2);
-    let f5 = fields::flag(given.f5);
-    let peer_check = fields::flag(given.peercheck);
-    let own_check = fields::flag(given.owncheck);
-    dh + 2 * own_confirm + 4 * peer_confirm + 8 * g2 + 16 * f5 + 32 * peer_check + 64 * own_check
+    u8::from(given.dh)
+        + 2 * u8::from(given.ownconfirm)
+        + 4 * u8::from(given.peerconfirm)
+        + 8 * u8::from(given.g2)
+        + 16 * u8::from(given.f5)
+        + 32 * u8::from(given.peercheck)
+        + 64 * u8::from(given.owncheck)
 }
 
 // The event's byte and its number.
@@ -325,50 +277,32 @@ fn event_value(came: Event) -> u32
     ensures { result ≡ event_value came }
 {
     match came {
-        Event::LinkEncryptedResult(encrypted) => fields::flag(encrypted) as u32,
-        Event::PassKeyConfirm => 0,
-        Event::PassKeyCancel => 0,
+        Event::LinkEncryptedResult(encrypted) => u32::from(encrypted),
         Event::PassKeyInput(passkey) => passkey,
-        Event::OobDataReceived => 0,
+        Event::PassKeyConfirm | Event::PassKeyCancel | Event::OobDataReceived => 0,
     }
 }
 
 fn event_of(number: u8, value: u32) -> Event
     ensures { result ≡ event_of number value }
 {
-    if number == 1 {
-        return Event::LinkEncryptedResult(value == 1);
+    match number {
+        1 => Event::LinkEncryptedResult(value == 1),
+        2 => Event::PassKeyConfirm,
+        3 => Event::PassKeyCancel,
+        4 => Event::PassKeyInput(value),
+        _ => Event::OobDataReceived,
     }
-    if number == 2 {
-        return Event::PassKeyConfirm;
-    }
-    if number == 3 {
-        return Event::PassKeyCancel;
-    }
-    if number == 4 {
-        return Event::PassKeyInput(value);
-    }
-    Event::OobDataReceived
 }
 
 // Whether an event with this number exists and the value is in its range.
 fn number_fits(number: u8, value: u32) -> bool
     ensures { result ≡ number_fits number value }
 {
-    if number == 1 {
-        return value <= 1;
+    match number {
+        1 => value <= 1,
+        2 | 3 | 5 => value == 0,
+        4 => true,
+        _ => false,
     }
-    if number == 2 {
-        return value == 0;
-    }
-    if number == 3 {
-        return value == 0;
-    }
-    if number == 4 {
-        return true;
-    }
-    if number == 5 {
-        return value == 0;
-    }
-    false
 }

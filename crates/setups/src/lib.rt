@@ -81,6 +81,7 @@ pub struct SetupCall {
 }
 
 // The setup in a payload; none where the payload doesn't fit.
+#[tactic(auto, unfolding(crate::specs::Setup::read_setup))]
 pub fn read_setup(payload: &[u8]) -> Option<SetupCall>
     ensures { result ≡ read_setup payload.now }
 {
@@ -131,6 +132,7 @@ fn passkey_fits(p: &[u8]) -> bool
 }
 
 // What a payload says.
+#[tactic(auto, using(crate::proofs::Starts::start_told), unfolding(crate::specs::Setup::setup_call))]
 fn setup_call(p: &[u8]) -> SetupCall
     ensures { result ≡ setup_call p.now }
 {

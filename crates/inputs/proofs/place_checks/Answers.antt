@@ -8,8 +8,8 @@ use Rattle.inputs.proofs.place_checks.Goals as goal
 pub returns : goal.returns
 unfolding join
 returns c =
-    let f = first 64 c.place16.ensures c.requires in
-    let f = more f c.place16-2.ensures refl in
-    let f = more f c.place16-3.ensures refl in
-    let f = more f c.place16-4.ensures refl in
+    let f = first 64 c.place_array.ensures c.requires in
+    let f = more f c.place_array-2.ensures refl in
+    let f = more f c.place_array-3.ensures refl in
+    let f = more f c.place_array-4.ensures refl in
     as_rows _ f.placed (simp (append_assoc, append-nil))

@@ -3,15 +3,15 @@ use Rattle.inputs.proofs.Rows.{event_rows_lem}
 use mathlib.Core.Path.{refl, ap}
 use Rattle.fields.specs.Fields.{little}
 use lib.ListN.{length}
-use Rattle.fields.proofs.Parts.{piece, first, more, as_rows}
+use Rattle.fields.proofs.Parts.{first, more, as_rows}
 use Rattle.inputs.proofs.place_event.Goals as goal
 
 pub returns : goal.returns
 unfolding little
 returns c =
     let f = first 209 c.place_call.ensures c.requires in
-    let f = more f (piece 5 _ c.place.ensures (ap length c.event_head-head.ensures)) refl in
-    let f = more f c.place16.ensures refl in
-    let f = more f c.place16-2.ensures refl in
-    let f = more f c.place16-3.ensures refl in
-    as_rows _ f.placed (rw c.event_head-head.ensures (event_rows_lem c.args.call))
+    let f = more f c.place_array.ensures refl in
+    let f = more f c.place_array-2.ensures refl in
+    let f = more f c.place_array-3.ensures refl in
+    let f = more f c.place_array-4.ensures refl in
+    as_rows _ f.placed (rw c.event_head.ensures (event_rows_lem c.args.call))
