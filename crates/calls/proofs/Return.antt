@@ -9,6 +9,7 @@ use lib.ListN.{length, get_or}
 use lib.Seq.{take_all}
 use lib.Dec.{eqb}
 use borrow.Author.Tests.{eq-eqb, ne_eqb, le-leb, eqb-true}
+use Rattle.std.specs.Prelude.{Option, Some, None}
 use Rattle.protocol.specs.Numbers.{failure_number, refusal_number}
 use Rattle.protocol.specs.declared.Failure.TheVariants as F
 use Rattle.protocol.specs.declared.Refusal.TheVariants as R
@@ -19,21 +20,19 @@ use Rattle.fields.proofs.Cut.{row_eq, join_cut, number_two, Below, number_row}
 use Rattle.calls.specs.declared.Kind.{Kind}
 use Rattle.calls.specs.declared.Kind.TheVariants as K
 use Rattle.calls.specs.declared.Header.{Header}
-use Rattle.calls.specs.declared.ReadAnswer.{ReadAnswer}
-use Rattle.calls.specs.declared.ReadAnswer.TheVariants.{Fits, Misfit}
 use Rattle.calls.specs.Header.{record_number, record_of, header_octets, read_header}
 use Rattle.calls.specs.Answer.{answer_octets, failure_of, refusal_of, taken_of, failed_of, refused_of, read_answer}
 
 -- Headers: of a known kind, and a length of at most 512
 
-read_kind : (n : ℕ) (k : Kind) → n ≤ 512 → (record_number k ≡ 0 → ⊥) → read_header (header_octets (record { length = n; kind = k })) ≡ record { length = n; kind = k }
+read_kind : (n : ℕ) (k : Option Kind) → n ≤ 512 → (record_number k ≡ 0 → ⊥) → read_header (header_octets (record { length = n; kind = k })) ≡ record { length = n; kind = k }
 unfolding read_header header_octets join little number
-read_kind n K.Setup h d = rw (le-leb n 512 h) (ap (λ (m : ℕ). record { length = m; kind = K.Setup }) (number_two n (omega arith)))
-read_kind n K.Command h d = rw (le-leb n 512 h) (ap (λ (m : ℕ). record { length = m; kind = K.Command }) (number_two n (omega arith)))
-read_kind n K.Event h d = rw (le-leb n 512 h) (ap (λ (m : ℕ). record { length = m; kind = K.Event }) (number_two n (omega arith)))
-read_kind n K.Timeout h d = rw (le-leb n 512 h) (ap (λ (m : ℕ). record { length = m; kind = K.Timeout }) (number_two n (omega arith)))
-read_kind n K.Answer h d = rw (le-leb n 512 h) (ap (λ (m : ℕ). record { length = m; kind = K.Answer }) (number_two n (omega arith)))
-read_kind n K.Unknown h d = absurd (d refl)
+read_kind n (Some K.Setup) h d = rw (le-leb n 512 h) (ap (λ (m : ℕ). record { length = m; kind = Some K.Setup }) (number_two n (omega arith)))
+read_kind n (Some K.Command) h d = rw (le-leb n 512 h) (ap (λ (m : ℕ). record { length = m; kind = Some K.Command }) (number_two n (omega arith)))
+read_kind n (Some K.Event) h d = rw (le-leb n 512 h) (ap (λ (m : ℕ). record { length = m; kind = Some K.Event }) (number_two n (omega arith)))
+read_kind n (Some K.Timeout) h d = rw (le-leb n 512 h) (ap (λ (m : ℕ). record { length = m; kind = Some K.Timeout }) (number_two n (omega arith)))
+read_kind n (Some K.Answer) h d = rw (le-leb n 512 h) (ap (λ (m : ℕ). record { length = m; kind = Some K.Answer }) (number_two n (omega arith)))
+read_kind n None h d = absurd (d refl)
 
 pub read_put_header : (h : Header) → h.length ≤ 512 → (record_number h.kind ≡ 0 → ⊥) → read_header (header_octets h) ≡ h
 read_put_header h n d = read_kind h.length h.kind n d
@@ -62,7 +61,7 @@ put_read_header l b s h d =
 
 -- Answers
 
-pub read_put_answer : (a : Answer) → read_answer (answer_octets a) ≡ Fits a
+pub read_put_answer : (a : Answer) → read_answer (answer_octets a) ≡ Some a
 unfolding read_answer failed_of refused_of failure_of refusal_of
 read_put_answer Taken = refl
 read_put_answer (Failed F.InvalidState) = refl
@@ -81,12 +80,12 @@ read_put_answer (Refused R.OutboxShort) = refl
 read_put_answer (Refused R.PasskeyRange) = refl
 
 -- which way a test went
-went : (t : Bool) (x y : ReadAnswer) (a : Answer) → cond t x y ≡ Fits a → ((t ≡ true) × (x ≡ Fits a)) ⊎ (y ≡ Fits a)
+went : (t : Bool) (x y : Option Answer) (a : Answer) → cond t x y ≡ Some a → ((t ≡ true) × (x ≡ Some a)) ⊎ (y ≡ Some a)
 went true x y a h = inl (refl, h)
 went false x y a h = inr h
 
 -- a misfit is no answer
-fitting : (t : Bool) (x : ReadAnswer) (a : Answer) → cond t x Misfit ≡ Fits a → (t ≡ true) × (x ≡ Fits a)
+fitting : (t : Bool) (x : Option Answer) (a : Answer) → cond t x None ≡ Some a → (t ≡ true) × (x ≡ Some a)
 fitting true x a h = (refl, h)
 fitting false x a h = absurd (let z : ◌≡◌ {A = ℕ} 0 1 = cc in omega arith)
 
@@ -96,28 +95,28 @@ two [] h = absurd (omega arith)
 two (a ∷ []) h = absurd (omega arith)
 two (a ∷ b ∷ c ∷ l) h = absurd (omega arith)
 
-taken_number : (n : ℕ) (a : Answer) → taken_of n ≡ Fits a → answer_octets a ≡ 0 ∷ n ∷ []
+taken_number : (n : ℕ) (a : Answer) → taken_of n ≡ Some a → answer_octets a ≡ 0 ∷ n ∷ []
 taken_number n a h =
-    let f = fitting (eqb n 0) (Fits Taken) a h in
+    let f = fitting (eqb n 0) (Some Taken) a h in
     let e : n ≡ 0 = eqb-true n 0 f.0 in
     let t : a ≡ Taken = cc f.1 in
     rw (t, e)
 
-failed_number : (n : ℕ) (a : Answer) → failed_of n ≡ Fits a → answer_octets a ≡ 1 ∷ n ∷ []
+failed_number : (n : ℕ) (a : Answer) → failed_of n ≡ Some a → answer_octets a ≡ 1 ∷ n ∷ []
 unfolding failed_of
 failed_number n a h =
-    let f = fitting (eqb (failure_number (failure_of n)) n) (Fits (Failed (failure_of n))) a h in
+    let f = fitting (eqb (failure_number (failure_of n)) n) (Some (Failed (failure_of n))) a h in
     let t : a ≡ Failed (failure_of n) = cc f.1 in
     rw t (ap (λ (m : ℕ). 1 ∷ m ∷ []) (eqb-true (failure_number (failure_of n)) n f.0))
 
-refused_number : (n : ℕ) (a : Answer) → refused_of n ≡ Fits a → answer_octets a ≡ 2 ∷ n ∷ []
+refused_number : (n : ℕ) (a : Answer) → refused_of n ≡ Some a → answer_octets a ≡ 2 ∷ n ∷ []
 unfolding refused_of
 refused_number n a h =
-    let f = fitting (eqb (refusal_number (refusal_of n)) n) (Fits (Refused (refusal_of n))) a h in
+    let f = fitting (eqb (refusal_number (refusal_of n)) n) (Some (Refused (refusal_of n))) a h in
     let t : a ≡ Refused (refusal_of n) = cc f.1 in
     rw t (ap (λ (m : ℕ). 2 ∷ m ∷ []) (eqb-true (refusal_number (refusal_of n)) n f.0))
 
-pub put_read_answer : (l : List ℕ) (a : Answer) → read_answer l ≡ Fits a → answer_octets a ≡ l
+pub put_read_answer : (l : List ℕ) (a : Answer) → read_answer l ≡ Some a → answer_octets a ≡ l
 unfolding read_answer
 put_read_answer l a h =
     let s = fitting (eqb (length l) 2) _ a h in

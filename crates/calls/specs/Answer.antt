@@ -1,5 +1,5 @@
 -- The payload of an answer: two bytes, its class and its number.
-use Rattle.std.specs.Prelude.{ℕ, List, [], ◌∷◌, cond, length, get_or, eqb}
+use Rattle.std.specs.Prelude.{ℕ, List, [], ◌∷◌, cond, Option, Some, None, length, get_or, eqb}
 use Rattle.protocol.specs.Numbers.{failure_number, refusal_number}
 use Rattle.protocol.specs.declared.Failure.{Failure}
 use Rattle.protocol.specs.declared.Failure.TheVariants as F
@@ -7,8 +7,6 @@ use Rattle.protocol.specs.declared.Refusal.{Refusal}
 use Rattle.protocol.specs.declared.Refusal.TheVariants as R
 use Rattle.protocol.specs.declared.Answer.{Answer}
 use Rattle.protocol.specs.declared.Answer.TheVariants.{Taken, Failed, Refused}
-use Rattle.calls.specs.declared.ReadAnswer.{ReadAnswer}
-use Rattle.calls.specs.declared.ReadAnswer.TheVariants.{Fits, Misfit}
 
 -- 0 taken, 1 failed, 2 refused
 abbrev pub answer_octets : Answer → List ℕ
@@ -34,22 +32,29 @@ failure_of n =
 unfoldable pub refusal_of : ℕ → Refusal
 refusal_of n = cond (eqb n 1) R.Finished (cond (eqb n 2) R.OutboxShort R.PasskeyRange)
 
+-- the failure and the refusal with a number, none where no one has it
+abbrev pub numbered_failure : ℕ → Option Failure
+numbered_failure n = cond (eqb (failure_number (failure_of n)) n) (Some (failure_of n)) None
+
+abbrev pub numbered_refusal : ℕ → Option Refusal
+numbered_refusal n = cond (eqb (refusal_number (refusal_of n)) n) (Some (refusal_of n)) None
+
 -- the number of a class, 0 alone, a failure's or a refusal's
-abbrev pub taken_of : ℕ → ReadAnswer
-taken_of n = cond (eqb n 0) (Fits Taken) Misfit
+abbrev pub taken_of : ℕ → Option Answer
+taken_of n = cond (eqb n 0) (Some Taken) None
 
-unfoldable pub failed_of : ℕ → ReadAnswer
-failed_of n = cond (eqb (failure_number (failure_of n)) n) (Fits (Failed (failure_of n))) Misfit
+unfoldable pub failed_of : ℕ → Option Answer
+failed_of n = cond (eqb (failure_number (failure_of n)) n) (Some (Failed (failure_of n))) None
 
-unfoldable pub refused_of : ℕ → ReadAnswer
-refused_of n = cond (eqb (refusal_number (refusal_of n)) n) (Fits (Refused (refusal_of n))) Misfit
+unfoldable pub refused_of : ℕ → Option Answer
+refused_of n = cond (eqb (refusal_number (refusal_of n)) n) (Some (Refused (refusal_of n))) None
 
 -- what two bytes say
-unfoldable pub read_answer : List ℕ → ReadAnswer
+unfoldable pub read_answer : List ℕ → Option Answer
 read_answer l =
     cond (eqb (length l) 2)
     (cond (eqb (get_or l 0 0) 0) (taken_of (get_or l 1 0))
     (cond (eqb (get_or l 0 0) 1) (failed_of (get_or l 1 0))
     (cond (eqb (get_or l 0 0) 2) (refused_of (get_or l 1 0))
-    Misfit)))
-    Misfit
+    None)))
+    None

@@ -1,29 +1,35 @@
 -- The header of a record: the payload's length and its kind, two bytes each.
-use Rattle.std.specs.Prelude.{ℕ, List, [], ◌∷◌, cond, length, eqb, leb}
+use Rattle.std.specs.Prelude.{ℕ, List, [], ◌∷◌, cond, Option, Some, None, Result, length, eqb, leb}
+use Rattle.std.specs.Option.{ok_or}
 use Rattle.calls.specs.declared.Kind.{Kind}
 use Rattle.calls.specs.declared.Kind.TheVariants as K
+use Rattle.calls.specs.declared.UnknownKind.{UnknownKind}
 use Rattle.calls.specs.declared.Header.{Header}
 use Rattle.fields.specs.Fields.{little, number_at, join}
 
 -- the kinds' numbers; 0 is no kind's
-abbrev pub record_number : Kind → ℕ
-record_number K.Setup = 1
-record_number K.Command = 2
-record_number K.Event = 3
-record_number K.Timeout = 4
-record_number K.Answer = 5
-record_number K.Unknown = 0
+abbrev pub record_number : Option Kind → ℕ
+record_number (Some K.Setup) = 1
+record_number (Some K.Command) = 2
+record_number (Some K.Event) = 3
+record_number (Some K.Timeout) = 4
+record_number (Some K.Answer) = 5
+record_number None = 0
 
-abbrev pub record_of : ℕ → Kind
+abbrev pub record_of : ℕ → Option Kind
 record_of n =
-    cond (eqb n 1) K.Setup
-    (cond (eqb n 2) K.Command
-    (cond (eqb n 3) K.Event
-    (cond (eqb n 4) K.Timeout
-    (cond (eqb n 5) K.Answer
-    K.Unknown))))
+    cond (eqb n 1) (Some K.Setup)
+    (cond (eqb n 2) (Some K.Command)
+    (cond (eqb n 3) (Some K.Event)
+    (cond (eqb n 4) (Some K.Timeout)
+    (cond (eqb n 5) (Some K.Answer)
+    None))))
 
--- the four bytes; none where the length is above 512 or the kind unknown
+-- the kind with a number, or the number that no kind has
+abbrev pub numbered_kind : ℕ → Result Kind UnknownKind
+numbered_kind n = ok_or (record_of n) (record { 0 = n })
+
+-- the four bytes; none where the length is above 512 or there is no kind
 unfoldable pub header_octets : Header → List ℕ
 header_octets h =
     cond (leb h.length 512)
@@ -40,4 +46,4 @@ unfoldable pub read_header : List ℕ → Header
 read_header l =
     cond (eqb (length l) 4)
     (record { length = number_at 2 0 l; kind = record_of (number_at 2 2 l) })
-    (record { length = 0; kind = K.Unknown })
+    (record { length = 0; kind = None })

@@ -2,92 +2,109 @@
 // here; setups stand in `setups`, commands and events in `inputs`, and are passed on from there. Nothing here runs the machine.
 #![tactic(auto)]
 
-ghost use Rattle.std.specs.Prelude.{◌≡◌};
+ghost use Rattle.std.specs.Prelude.{◌≡◌, Some};
 ghost use Rattle.octets.specs.Write.{Wrote};
-ghost use Rattle.calls.specs.Header.{record_number, record_of, header_octets, read_header};
-ghost use Rattle.calls.specs.Answer.{answer_octets, failure_of, refusal_of, taken_of, failed_of, refused_of, read_answer};
+ghost use Rattle.calls.specs.Header.{record_number, numbered_kind, header_octets, read_header};
+ghost use Rattle.calls.specs.Answer.{answer_octets, numbered_failure, numbered_refusal, read_answer};
 
-pub use inputs::{
-    Call, EventCall, ReadCommand, ReadEvent, put_command, put_event, read_command, read_event,
-};
+pub use inputs::{Call, EventCall, put_command, put_event, read_command, read_event};
 use protocol::{Answer, Failure, Refusal};
-pub use setups::{ReadSetup, SetupCall, StartKind, put_setup, read_setup};
+pub use setups::{SetupCall, StartKind, put_setup, read_setup};
 
-#[derive(Clone, Copy)]
+#[derive(Clone, Copy, Debug, PartialEq, Eq)]
 pub enum Kind {
     Setup,
     Command,
     Event,
     Timeout,
     Answer,
-    Unknown,
 }
 
+// A number that no kind of record has.
+#[derive(Clone, Copy, Debug, PartialEq, Eq)]
+pub struct UnknownKind(pub usize);
+
+impl From<Kind> for u8 {
+    ghost from_gives = { λ kind r. r ≡ record_number (Some kind) };
+
+    fn from(kind: Kind) -> u8 {
+        match kind {
+            Kind::Setup => 1,
+            Kind::Command => 2,
+            Kind::Event => 3,
+            Kind::Timeout => 4,
+            Kind::Answer => 5,
+        }
+    }
+}
+
+impl TryFrom<usize> for Kind {
+    type Error = UnknownKind;
+
+    ghost try_from_gives = { λ number r. r ≡ numbered_kind number };
+
+    fn try_from(number: usize) -> Result<Self, UnknownKind> {
+        match number {
+            1 => Ok(Kind::Setup),
+            2 => Ok(Kind::Command),
+            3 => Ok(Kind::Event),
+            4 => Ok(Kind::Timeout),
+            5 => Ok(Kind::Answer),
+            _ => Err(UnknownKind(number)),
+        }
+    }
+}
+
+// No kind where the number is none's.
 #[derive(Clone, Copy)]
 pub struct Header {
     pub length: usize,
-    pub kind: Kind,
-}
-
-// `Taken` is the answer of a start that began too.
-#[derive(Clone, Copy)]
-pub enum ReadAnswer {
-    Fits(Answer),
-    Misfit,
+    pub kind: Option<Kind>,
 }
 
 // The header in four bytes. Another length has no payload and no kind.
+#[tactic(auto, unfolding(crate::specs::Header::read_header))]
 pub fn read_header(header: &[u8]) -> Header
     ensures { result ≡ read_header header.now }
 {
-    if header.len() == 4 {
+    if header.len() != 4 {
         return Header {
-            length: fields::half(header, 0),
-            kind: kind_of(fields::half(header, 2)),
+            length: 0,
+            kind: None,
         };
     }
     Header {
-        length: 0,
-        kind: Kind::Unknown,
+        length: fields::half(header, 0),
+        kind: Kind::try_from(fields::half(header, 2)).ok(),
     }
 }
 
-// Writes a header and answers 4. Where out is too short, the length above 512 or the kind unknown: nothing, and 0.
+// Writes a header and answers 4. Where out is too short, the length above 512 or there is no kind: nothing, and 0.
+#[tactic(auto, using(fields::proofs::Parts::nothing, fields::proofs::Parts::wrote_as, crate::proofs::Headers::header_rows), unfolding(crate::specs::Header::header_octets))]
 pub fn put_header(out: &mut [u8], header: Header) -> usize
     ensures { Wrote (header_octets header) out.old result out.new }
 {
-    let length = header.length;
-    let kind = header.kind;
-    let number = kind_number(kind);
-    if 512 < length {
+    if 512 < header.length {
         return 0;
     }
-    if number == 0 {
+    let Some(kind) = header.kind else {
         return 0;
-    }
-    let low = fields::bytes2(length);
-    octets::put(out, &[low[0], low[1], number, 0])
+    };
+    let low = fields::bytes2(header.length);
+    octets::put(out, &[low[0], low[1], u8::from(kind), 0])
 }
 
-// The answer in a payload.
-pub fn read_answer(payload: &[u8]) -> ReadAnswer
+// The answer in a payload, none where the payload doesn't fit. `Taken` is the answer of a start that began too.
+#[tactic(auto, unfolding(crate::specs::Answer::read_answer, crate::specs::Answer::failed_of, crate::specs::Answer::refused_of))]
+pub fn read_answer(payload: &[u8]) -> Option<Answer>
     ensures { result ≡ read_answer payload.now }
 {
-    if payload.len() != 2 {
-        return ReadAnswer::Misfit;
+    match payload {
+        [0, 0] => Some(Answer::Taken),
+        [1, number] => Some(Answer::Failed(failure_of(*number)?)),
+        [2, number] => Some(Answer::Refused(refusal_of(*number)?)),
+        _ => None,
     }
-    let class = payload[0];
-    let number = payload[1];
-    if class == 0 {
-        return taken_of(number);
-    }
-    if class == 1 {
-        return failed_of(number);
-    }
-    if class == 2 {
-        return refused_of(number);
-    }
-    ReadAnswer::Misfit
 }
 
 // Writes an answer's payload and answers 2. Where out is too short: nothing, and 0.
@@ -95,40 +112,6 @@ pub fn put_answer(out: &mut [u8], answer: Answer) -> usize
     ensures { Wrote (answer_octets answer) out.old result out.new }
 {
     octets::put(out, &answer_bytes(answer))
-}
-
-fn kind_number(kind: Kind) -> u8
-    ensures { result ≡ record_number kind }
-{
-    match kind {
-        Kind::Setup => 1,
-        Kind::Command => 2,
-        Kind::Event => 3,
-        Kind::Timeout => 4,
-        Kind::Answer => 5,
-        Kind::Unknown => 0,
-    }
-}
-
-fn kind_of(number: usize) -> Kind
-    ensures { result ≡ record_of number }
-{
-    if number == 1 {
-        return Kind::Setup;
-    }
-    if number == 2 {
-        return Kind::Command;
-    }
-    if number == 3 {
-        return Kind::Event;
-    }
-    if number == 4 {
-        return Kind::Timeout;
-    }
-    if number == 5 {
-        return Kind::Answer;
-    }
-    Kind::Unknown
 }
 
 fn answer_bytes(answer: Answer) -> [u8; 2]
@@ -141,79 +124,36 @@ fn answer_bytes(answer: Answer) -> [u8; 2]
     }
 }
 
-fn taken_of(number: u8) -> ReadAnswer
-    ensures { result ≡ taken_of number }
+// The failure with a number.
+#[tactic(auto, unfolding(crate::specs::Answer::failure_of))]
+fn failure_of(number: u8) -> Option<Failure>
+    ensures { result ≡ numbered_failure number }
 {
-    if number == 0 {
-        return ReadAnswer::Fits(Answer::Taken);
-    }
-    ReadAnswer::Misfit
+    Some(match number {
+        16 => Failure::InvalidState,
+        17 => Failure::InvalidValue,
+        18 => Failure::Timeout,
+        33 => Failure::PasskeyEntryFailed,
+        35 => Failure::AuthenticationRequirements,
+        36 => Failure::ConfirmValueFailed,
+        38 => Failure::EncryptionKeySize,
+        42 => Failure::InvalidParameters,
+        43 => Failure::DHKeyCheckFailed,
+        44 => Failure::NumericComparisonFailed,
+        47 => Failure::KeyRejected,
+        _ => return None,
+    })
 }
 
-fn failed_of(number: u8) -> ReadAnswer
-    ensures { result ≡ failed_of number }
+// The refusal with a number.
+#[tactic(auto, unfolding(crate::specs::Answer::refusal_of))]
+fn refusal_of(number: u8) -> Option<Refusal>
+    ensures { result ≡ numbered_refusal number }
 {
-    let failure = failure_of(number);
-    if numbers::failure_number(failure) == number {
-        return ReadAnswer::Fits(Answer::Failed(failure));
-    }
-    ReadAnswer::Misfit
-}
-
-fn refused_of(number: u8) -> ReadAnswer
-    ensures { result ≡ refused_of number }
-{
-    let refusal = refusal_of(number);
-    if numbers::refusal_number(refusal) == number {
-        return ReadAnswer::Fits(Answer::Refused(refusal));
-    }
-    ReadAnswer::Misfit
-}
-
-fn failure_of(number: u8) -> Failure
-    ensures { result ≡ failure_of number }
-{
-    if number == 16 {
-        return Failure::InvalidState;
-    }
-    if number == 17 {
-        return Failure::InvalidValue;
-    }
-    if number == 18 {
-        return Failure::Timeout;
-    }
-    if number == 33 {
-        return Failure::PasskeyEntryFailed;
-    }
-    if number == 35 {
-        return Failure::AuthenticationRequirements;
-    }
-    if number == 36 {
-        return Failure::ConfirmValueFailed;
-    }
-    if number == 38 {
-        return Failure::EncryptionKeySize;
-    }
-    if number == 42 {
-        return Failure::InvalidParameters;
-    }
-    if number == 43 {
-        return Failure::DHKeyCheckFailed;
-    }
-    if number == 44 {
-        return Failure::NumericComparisonFailed;
-    }
-    Failure::KeyRejected
-}
-
-fn refusal_of(number: u8) -> Refusal
-    ensures { result ≡ refusal_of number }
-{
-    if number == 1 {
-        return Refusal::Finished;
-    }
-    if number == 2 {
-        return Refusal::OutboxShort;
-    }
-    Refusal::PasskeyRange
+    Some(match number {
+        1 => Refusal::Finished,
+        2 => Refusal::OutboxShort,
+        3 => Refusal::PasskeyRange,
+        _ => return None,
+    })
 }
