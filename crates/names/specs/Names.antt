@@ -24,11 +24,6 @@ unfoldable pub octets : String → List ℕ
 octets none = []
 octets (c then word) = code c ∷ octets word
 
--- the word in 36 octets, with spaces behind it
-unfoldable pub padded : String → List ℕ
-unfolding octets
-padded word = octets word ++ replicate (36 - count word) 32
-
 -- behind `failed`, `Error` and `PairingFailed`
 abbrev pub failure_name : Failure → String
 failure_name F.InvalidState = ":16:InvalidState"

@@ -1,19 +1,19 @@
 -- `names::passkey_entry` meets its contract: the octets of each arm are those of its word. Assumes nothing.
-use Rattle.names.specs.Names.{octets, padded}
+use Rattle.names.specs.Names.{octets}
 use Rattle.names.proofs.passkey_entry.Goals as goal
 
-pub returns-in-Display-peripheral : goal.returns-in-Display-peripheral
-unfolding octets padded
-returns-in-Display-peripheral c = rw (c.in-Display-peripheral.is, c.in-Display.is)
+pub returns-in-Display-Display : goal.returns-in-Display-Display
+unfolding octets
+returns-in-Display-Display c = rw (c.in-Display-Display.is-0, c.in-Display-Display.is-1)
 
-pub returns-in-Input-peripheral : goal.returns-in-Input-peripheral
-unfolding octets padded
-returns-in-Input-peripheral c = rw (c.in-Input-peripheral.is, c.in-Display.is)
+pub returns-in-Display-Input : goal.returns-in-Display-Input
+unfolding octets
+returns-in-Display-Input c = rw (c.in-Display-Input.is-0, c.in-Display-Input.is-1)
 
-pub returns-in-Display-peripheral-2 : goal.returns-in-Display-peripheral-2
-unfolding octets padded
-returns-in-Display-peripheral-2 c = rw (c.in-Display-peripheral-2.is, c.in-Input.is)
+pub returns-in-Input-Display : goal.returns-in-Input-Display
+unfolding octets
+returns-in-Input-Display c = rw (c.in-Input-Display.is-0, c.in-Input-Display.is-1)
 
-pub returns-in-Input-peripheral-2 : goal.returns-in-Input-peripheral-2
-unfolding octets padded
-returns-in-Input-peripheral-2 c = rw (c.in-Input-peripheral-2.is, c.in-Input.is)
+pub returns-in-Input-Input : goal.returns-in-Input-Input
+unfolding octets
+returns-in-Input-Input c = rw (c.in-Input-Input.is-0, c.in-Input-Input.is-1)
