@@ -8,8 +8,8 @@ use lib.ListN.{length, take, drop, get_or, length-append, length-drop, take-appe
 use lib.Seq.{take_all, take-add, drop_at}
 use lib.Dec.{eqb, leb}
 use borrow.Author.Tests.{eq-eqb, ne_eqb, le-leb, eqb-true, leb-true}
-use Rattle.protocol.specs.declared.Event.{Event}
-use Rattle.protocol.specs.declared.Event.TheVariants.{LinkEncryptedResult, PassKeyConfirm, PassKeyCancel, PassKeyInput, OobDataReceived}
+use Rattle.inputs.specs.declared.Came.{Came}
+use Rattle.inputs.specs.declared.Came.TheVariants.{LinkEncryptedResult, PassKeyConfirm, PassKeyCancel, PassKeyInput, OobDataReceived}
 use Rattle.protocol.specs.declared.Given.{Given}
 use Rattle.std.specs.Prelude.{Some}
 use Rattle.fields.specs.Fields.{little, number, number_at, field, flag_number, one, join}
@@ -113,14 +113,14 @@ given_number_lem n h =
 
 -- Events and their numbers
 
-event_back : (e : Event) → event_of (event_number e) (event_value e) ≡ e
+event_back : (e : Came) → event_of (event_number e) (event_value e) ≡ e
 event_back (LinkEncryptedResult b) = ap LinkEncryptedResult (flag_back b)
 event_back PassKeyConfirm = refl
 event_back PassKeyCancel = refl
 event_back (PassKeyInput n) = refl
 event_back OobDataReceived = refl
 
-event_fits_lem : (e : Event) → number_fits (event_number e) (event_value e) ≡ true
+event_fits_lem : (e : Came) → number_fits (event_number e) (event_value e) ≡ true
 event_fits_lem (LinkEncryptedResult b) = le-leb (flag_number b) 1 (flag_small b)
 event_fits_lem PassKeyConfirm = refl
 event_fits_lem PassKeyCancel = refl

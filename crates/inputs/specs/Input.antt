@@ -2,10 +2,13 @@
 -- 156 bytes. The supplied values' offsets are two more than in their own table.
 use Rattle.std.specs.Prelude.{ℕ, ◌+◌, ◌*◌, ◌/◌, ◌%◌, List, [], ◌∷◌, ◌++◌, Bool, true, false, cond, Option, Some, None, length, get_or, eqb, leb}
 use Rattle.protocol.specs.declared.Event.{Event}
-use Rattle.protocol.specs.declared.Event.TheVariants.{LinkEncryptedResult, PassKeyConfirm, PassKeyCancel, PassKeyInput, OobDataReceived}
+use Rattle.protocol.specs.declared.Event.TheVariants as I
+use Rattle.protocol.specs.declared.OobData.{OobData}
 use Rattle.protocol.specs.declared.Given.{Given}
 use Rattle.protocol.specs.declared.Supplied.{Supplied}
 use Rattle.inputs.specs.declared.Call.{Call}
+use Rattle.inputs.specs.declared.Came.{Came}
+use Rattle.inputs.specs.declared.Came.TheVariants.{LinkEncryptedResult, PassKeyConfirm, PassKeyCancel, PassKeyInput, OobDataReceived}
 use Rattle.inputs.specs.declared.EventCall.{EventCall}
 use Rattle.fields.specs.Fields.{little, number_at, field, flag_number, flag_at, one, join, every, at_most}
 
@@ -89,21 +92,21 @@ read_command l = cond (command_fits l) (Some (call_at l)) None
 
 -- An event: its byte, its number and the out-of-band values
 
-abbrev pub event_number : Event → ℕ
+abbrev pub event_number : Came → ℕ
 event_number (LinkEncryptedResult encrypted) = 1
 event_number PassKeyConfirm = 2
 event_number PassKeyCancel = 3
 event_number (PassKeyInput passkey) = 4
 event_number OobDataReceived = 5
 
-abbrev pub event_value : Event → ℕ
+abbrev pub event_value : Came → ℕ
 event_value (LinkEncryptedResult encrypted) = flag_number encrypted
 event_value PassKeyConfirm = 0
 event_value PassKeyCancel = 0
 event_value (PassKeyInput passkey) = passkey
 event_value OobDataReceived = 0
 
-abbrev pub event_of : ℕ → ℕ → Event
+abbrev pub event_of : ℕ → ℕ → Came
 event_of k n =
     cond (eqb k 1) (LinkEncryptedResult (eqb n 1))
     (cond (eqb k 2) PassKeyConfirm
@@ -120,6 +123,14 @@ number_fits k n =
     (cond (eqb k 4) true
     (cond (eqb k 5) (eqb n 0)
     false))))
+
+-- the event, with the out-of-band values where they are its own
+abbrev pub event_in : Came → OobData → Event
+event_in (LinkEncryptedResult encrypted) o = I.LinkEncryptedResult encrypted
+event_in PassKeyConfirm o = I.PassKeyConfirm
+event_in PassKeyCancel o = I.PassKeyCancel
+event_in (PassKeyInput passkey) o = I.PassKeyInput passkey
+event_in OobDataReceived o = I.OobDataReceived o
 
 -- the rows behind the first 156 bytes, with their offsets
 abbrev pub event_rows : EventCall → List (List ℕ)

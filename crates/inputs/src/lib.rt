@@ -20,6 +20,7 @@ ghost use Rattle.inputs.specs.Input.{
   event_of,
   number_fits,
   event_rows,
+  event_in,
   event_octets,
   event_call,
   event_fits,
@@ -27,6 +28,16 @@ ghost use Rattle.inputs.specs.Input.{
 };
 
 use protocol::{Event, Given, OobData, Supplied};
+
+// Which event came. Its out-of-band values stand beside it: a payload has them whatever came, and written again it has the same.
+#[derive(Clone, Copy, Debug, PartialEq, Eq)]
+pub enum Came {
+    LinkEncryptedResult(bool),
+    PassKeyConfirm,
+    PassKeyCancel,
+    PassKeyInput(u32),
+    OobDataReceived,
+}
 
 // What commands and events have in common: the outbox's length, which answers are given, and the supplied values.
 #[derive(Clone, Copy)]
@@ -36,12 +47,27 @@ pub struct Call {
     pub supplied: Supplied,
 }
 
-// An event, and the out-of-band values that OobDataReceived reads.
+// What an event's payload says.
 #[derive(Clone, Copy)]
 pub struct EventCall {
     pub call: Call,
-    pub came: Event,
+    pub came: Came,
     pub values: OobData,
+}
+
+impl EventCall {
+    // The event, which holds the values where it is theirs.
+    pub fn event(self) -> Event
+        ensures { result ≡ event_in self.came self.values }
+    {
+        match self.came {
+            Came::LinkEncryptedResult(encrypted) => Event::LinkEncryptedResult(encrypted),
+            Came::PassKeyConfirm => Event::PassKeyConfirm,
+            Came::PassKeyCancel => Event::PassKeyCancel,
+            Came::PassKeyInput(passkey) => Event::PassKeyInput(passkey),
+            Came::OobDataReceived => Event::OobDataReceived(self.values),
+        }
+    }
 }
 
 // What comes before the command in a command's payload, none where the payload doesn't fit; the command is what stands from offset 156 on.
@@ -248,7 +274,7 @@ fn given_number(given: Given) -> u8
 }
 
 // The event's byte and its number.
-fn event_head(came: Event) -> [u8; 5]
+fn event_head(came: Came) -> [u8; 5]
     ensures { result ≡ event_number came ∷ little 4 (event_value came) }
 {
     let digits = fields::bytes4(event_value(came));
@@ -261,37 +287,37 @@ fn event_head(came: Event) -> [u8; 5]
     ]
 }
 
-fn event_number(came: Event) -> u8
+fn event_number(came: Came) -> u8
     ensures { result ≡ event_number came }
 {
     match came {
-        Event::LinkEncryptedResult(_encrypted) => 1,
-        Event::PassKeyConfirm => 2,
-        Event::PassKeyCancel => 3,
-        Event::PassKeyInput(_passkey) => 4,
-        Event::OobDataReceived => 5,
+        Came::LinkEncryptedResult(_encrypted) => 1,
+        Came::PassKeyConfirm => 2,
+        Came::PassKeyCancel => 3,
+        Came::PassKeyInput(_passkey) => 4,
+        Came::OobDataReceived => 5,
     }
 }
 
-fn event_value(came: Event) -> u32
+fn event_value(came: Came) -> u32
     ensures { result ≡ event_value came }
 {
     match came {
-        Event::LinkEncryptedResult(encrypted) => u32::from(encrypted),
-        Event::PassKeyInput(passkey) => passkey,
-        Event::PassKeyConfirm | Event::PassKeyCancel | Event::OobDataReceived => 0,
+        Came::LinkEncryptedResult(encrypted) => u32::from(encrypted),
+        Came::PassKeyInput(passkey) => passkey,
+        Came::PassKeyConfirm | Came::PassKeyCancel | Came::OobDataReceived => 0,
     }
 }
 
-fn event_of(number: u8, value: u32) -> Event
+fn event_of(number: u8, value: u32) -> Came
     ensures { result ≡ event_of number value }
 {
     match number {
-        1 => Event::LinkEncryptedResult(value == 1),
-        2 => Event::PassKeyConfirm,
-        3 => Event::PassKeyCancel,
-        4 => Event::PassKeyInput(value),
-        _ => Event::OobDataReceived,
+        1 => Came::LinkEncryptedResult(value == 1),
+        2 => Came::PassKeyConfirm,
+        3 => Came::PassKeyCancel,
+        4 => Came::PassKeyInput(value),
+        _ => Came::OobDataReceived,
     }
 }
 
