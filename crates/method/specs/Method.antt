@@ -1,5 +1,5 @@
 -- Selecting the key generation method: Part H 2.3.5.1, Tables 2.6 to 2.8, written as the tables are.
-use Rattle.std.specs.Prelude.{Bool, true, false, cond, ◌&&◌, ◌||◌}
+use Rattle.std.specs.Prelude.{ℕ, Bool, true, false, cond, ◌&&◌, ◌||◌, Result, Ok, Err, eqb}
 use Rattle.features.specs.declared.IoCapabilities.{IoCapabilities}
 use Rattle.features.specs.declared.IoCapabilities.TheVariants.{DisplayOnly, DisplayYesNo, KeyboardOnly, NoInputNoOutput, KeyboardDisplay}
 use Rattle.features.specs.declared.UseOutOfBand.{UseOutOfBand}
@@ -12,7 +12,8 @@ use Rattle.method.specs.declared.Kind.TheVariants.{Legacy, SecureConnections}
 use Rattle.method.specs.declared.PairingMethod.{PairingMethod}
 use Rattle.method.specs.declared.PairingMethod.TheVariants.{JustWorks, NumericComparison, PassKeyEntry, OutOfBand}
 use Rattle.method.specs.declared.SecurityLevel.{SecurityLevel}
-use Rattle.method.specs.declared.SecurityLevel.TheVariants.{Encrypted, EncryptedAuthenticated}
+use Rattle.method.specs.declared.SecurityLevel.TheVariants.{NoEncryption, Encrypted, EncryptedAuthenticated}
+use Rattle.method.specs.declared.UnknownLevel.{UnknownLevel}
 
 -- a cell of Table 2.8: one method, or one for legacy pairing and one for Secure Connections
 abbrev pub Cell : Type 0
@@ -78,3 +79,16 @@ level_of JustWorks = Encrypted
 level_of NumericComparison = EncryptedAuthenticated
 level_of (PassKeyEntry central peripheral) = EncryptedAuthenticated
 level_of OutOfBand = EncryptedAuthenticated
+
+-- levels as docs/CALLS.md numbers them, and the level of a number
+abbrev pub level_number : SecurityLevel → ℕ
+level_number NoEncryption = 0
+level_number Encrypted = 1
+level_number EncryptedAuthenticated = 2
+
+abbrev pub numbered_level : ℕ → Result SecurityLevel UnknownLevel
+numbered_level n =
+    cond (eqb n 0) (Ok NoEncryption)
+    (cond (eqb n 1) (Ok Encrypted)
+    (cond (eqb n 2) (Ok EncryptedAuthenticated)
+    (Err record { 0 = n })))

@@ -3,7 +3,7 @@
 #![tactic(auto)]
 
 ghost use Rattle.std.specs.Prelude.{◌≡◌};
-ghost use Rattle.method.specs.Method.{always, numeric_or, table, set, uses_oob, method_of, level_of};
+ghost use Rattle.method.specs.Method.{always, numeric_or, table, set, uses_oob, method_of, level_of, level_number, numbered_level};
 
 use features::{IoCapabilities, PairingFeatures, UseOutOfBand};
 
@@ -36,6 +36,38 @@ pub enum SecurityLevel {
     NoEncryption,
     Encrypted,
     EncryptedAuthenticated,
+}
+
+// A number that no level has.
+#[derive(Clone, Copy, Debug, PartialEq, Eq)]
+pub struct UnknownLevel(pub u8);
+
+// Levels as docs/CALLS.md numbers them, and back.
+impl From<SecurityLevel> for u8 {
+    ghost from_gives = { λ level number. number ≡ level_number level };
+
+    fn from(level: SecurityLevel) -> u8 {
+        match level {
+            SecurityLevel::NoEncryption => 0,
+            SecurityLevel::Encrypted => 1,
+            SecurityLevel::EncryptedAuthenticated => 2,
+        }
+    }
+}
+
+impl TryFrom<u8> for SecurityLevel {
+    type Error = UnknownLevel;
+
+    ghost try_from_gives = { λ number level. level ≡ numbered_level number };
+
+    fn try_from(number: u8) -> Result<Self, UnknownLevel> {
+        match number {
+            0 => Ok(SecurityLevel::NoEncryption),
+            1 => Ok(SecurityLevel::Encrypted),
+            2 => Ok(SecurityLevel::EncryptedAuthenticated),
+            _ => Err(UnknownLevel(number)),
+        }
+    }
 }
 
 impl PairingMethod {
