@@ -1,6 +1,6 @@
 -- Reading a setup that was written gives the setup again, and writing what was read gives the same payload. Assumes nothing.
 use mathlib.Core.Path.{◌≡◌, refl, sym, ap, ◌∙◌}
-use Rattle.std.specs.Prelude.{Some}
+use Rattle.std.specs.Prelude.{Option, Some, None}
 use mathlib.Core.List.{List, [], ◌∷◌, append-nil}
 use mathlib.Core.Bool.{true, cond}
 use Prim.Native.Nat.{ℕ, zero, suc, ◌+◌, ◌≤◌, ◌<◌}
@@ -17,15 +17,14 @@ use Rattle.features.specs.Features.{io_number, oob_number}
 use Rattle.features.proofs.Features.{io_back, io_small, io_number_lem, oob_back, oob_small, oob_number_lem}
 use Rattle.method.specs.declared.SecurityLevel.{SecurityLevel}
 use Rattle.method.specs.declared.SecurityLevel.TheVariants.{NoEncryption, Encrypted, EncryptedAuthenticated}
-use Rattle.protocol.specs.declared.Configured.{Configured}
-use Rattle.protocol.specs.declared.Configured.TheVariants.{Nothing, Passkey}
+use Rattle.method.specs.Method.{level_number}
 use Rattle.fields.specs.Fields.{little, number, number_at, field, flag_number, one, join}
 use Rattle.fields.proofs.Cut.{cut_at, lengths, total, row_eq, cut_join, join_cut, length_join, field_there, byte_of, byte_row, cons_row, number_two, number_four, Below, number_row, test_none, test_first, test_at}
 use Rattle.fields.proofs.Flags.{flag_back, flag_small, flag_number_lem}
 use Rattle.setups.specs.declared.StartKind.{StartKind}
 use Rattle.setups.specs.declared.StartKind.TheVariants.{Plain, ByUser, NotByUser}
 use Rattle.setups.specs.declared.SetupCall.{SetupCall}
-use Rattle.setups.specs.Setup.{address_octets, kind_of, address_at, start_number, start_of, level_number, level_of, configured_number, configured_passkey, configured_of, setup_rows, setup_octets, setup_call, setup_fits, read_setup}
+use Rattle.setups.specs.Setup.{address_octets, kind_of, address_at, start_number, start_of, level_of, configured_number, configured_passkey, configured_of, setup_rows, setup_octets, setup_call, setup_fits, read_setup}
 
 -- Numbers and cases
 
@@ -74,17 +73,17 @@ kind_number_lem zero h = refl
 kind_number_lem (suc zero) h = refl
 kind_number_lem (suc (suc n)) h = absurd (omega arith)
 
-configured_back : (k : Configured) → configured_of (configured_number k) (configured_passkey k) ≡ k
-configured_back Nothing = refl
-configured_back (Passkey n) = refl
+configured_back : (k : Option ℕ) → configured_of (configured_number k) (configured_passkey k) ≡ k
+configured_back None = refl
+configured_back (Some n) = refl
 
-configured_small : (k : Configured) → configured_number k ≤ 1
-configured_small Nothing = omega arith
-configured_small (Passkey n) = omega arith
+configured_small : (k : Option ℕ) → configured_number k ≤ 1
+configured_small None = omega arith
+configured_small (Some n) = omega arith
 
-configured_fits : (k : Configured) → cond (eqb (configured_number k) 0) (eqb (configured_passkey k) 0) true ≡ true
-configured_fits Nothing = refl
-configured_fits (Passkey n) = refl
+configured_fits : (k : Option ℕ) → cond (eqb (configured_number k) 0) (eqb (configured_passkey k) 0) true ≡ true
+configured_fits None = refl
+configured_fits (Some n) = refl
 
 configured_number_lem : (k n : ℕ) → k ≤ 1 → configured_number (configured_of k n) ≡ k
 configured_number_lem zero n h = refl
@@ -124,7 +123,7 @@ setup_sizes = 1 ∷ 2 ∷ 1 ∷ 1 ∷ 1 ∷ 1 ∷ 4 ∷ 32 ∷ 32 ∷ 16 ∷ 7 �
 pub record Sound (c : SetupCall) : Type 0 where
   pub sizes : lengths (setup_rows c) ≡ setup_sizes
   pub outbox : c.outbox ≤ 512
-  pub passkey : configured_passkey c.setup.passkey < 4294967296
+  pub passkey : configured_passkey c.passkey < 4294967296
 
 -- Reading what was written
 module _ (c : SetupCall) (s : Sound c) where
@@ -149,38 +148,38 @@ module _ (c : SetupCall) (s : Sound c) where
   outbox : number_at 2 1 payload ≡ c.outbox
   outbox = ap number (row 1) ∙ number_two c.outbox (omega (arith, s.outbox))
 
-  io : get_or payload 3 0 ≡ io_number c.setup.io
+  io : get_or payload 3 0 ≡ io_number c.io
   io = byte_of 3 payload _ (row 2)
 
-  oob : get_or payload 4 0 ≡ oob_number c.setup.oob
+  oob : get_or payload 4 0 ≡ oob_number c.oob
   oob = byte_of 4 payload _ (row 3)
 
-  bonding : get_or payload 5 0 ≡ flag_number c.setup.bonding
+  bonding : get_or payload 5 0 ≡ flag_number c.bonding
   bonding = byte_of 5 payload _ (row 4)
 
-  configured : get_or payload 6 0 ≡ configured_number c.setup.passkey
+  configured : get_or payload 6 0 ≡ configured_number c.passkey
   configured = byte_of 6 payload _ (row 5)
 
-  passkey : number_at 4 7 payload ≡ configured_passkey c.setup.passkey
-  passkey = ap number (row 6) ∙ number_four (configured_passkey c.setup.passkey) s.passkey
+  passkey : number_at 4 7 payload ≡ configured_passkey c.passkey
+  passkey = ap number (row 6) ∙ number_four (configured_passkey c.passkey) s.passkey
 
-  own : Told 91 payload c.setup.own
-  own = address_back 91 payload c.setup.own (omega (arith, size)) (row 10)
+  own : Told 91 payload c.own
+  own = address_back 91 payload c.own (omega (arith, size)) (row 10)
 
-  identity : Told 98 payload c.setup.identity
-  identity = address_back 98 payload c.setup.identity (omega (arith, size)) (row 11)
+  identity : Told 98 payload c.identity
+  identity = address_back 98 payload c.identity (omega (arith, size)) (row 11)
 
-  peer : Told 105 payload c.setup.peer
-  peer = address_back 105 payload c.setup.peer (omega (arith, size)) (row 12)
+  peer : Told 105 payload c.peer
+  peer = address_back 105 payload c.peer (omega (arith, size)) (row 12)
 
-  there : get_or payload 112 0 ≡ flag_number c.setup.known.there
+  there : get_or payload 112 0 ≡ flag_number c.there
   there = byte_of 112 payload _ (row 13)
 
-  level : get_or payload 129 0 ≡ level_number c.setup.known.bond.level
+  level : get_or payload 129 0 ≡ level_number c.bond.level
   level = byte_of 129 payload _ (row 15)
 
-  bonded : Told 130 payload c.setup.known.bond.address
-  bonded = address_back 130 payload c.setup.known.bond.address (omega (arith, size)) (row 16)
+  bonded : Told 130 payload c.bond.address
+  bonded = address_back 130 payload c.bond.address (omega (arith, size)) (row 16)
 
   string : (n at : ℕ) (v : List ℕ) → at + n ≤ 153 → take n (drop at payload) ≡ v → field n at payload ≡ v
   string n at v h e = field_there n at payload (omega (arith, size)) ∙ e
@@ -193,14 +192,14 @@ module _ (c : SetupCall) (s : Sound c) where
         start_back c.start,
         outbox,
         io,
-        io_back c.setup.io,
+        io_back c.io,
         oob,
-        oob_back c.setup.oob,
+        oob_back c.oob,
         bonding,
-        flag_back c.setup.bonding,
+        flag_back c.bonding,
         configured,
         passkey,
-        configured_back c.setup.passkey,
+        configured_back c.passkey,
         string 32 11 _ (omega arith) (row 7),
         string 32 43 _ (omega arith) (row 8),
         string 16 75 _ (omega arith) (row 9),
@@ -208,10 +207,10 @@ module _ (c : SetupCall) (s : Sound c) where
         identity.says,
         peer.says,
         there,
-        flag_back c.setup.known.there,
+        flag_back c.there,
         string 16 113 _ (omega arith) (row 14),
         level,
-        level_back c.setup.known.bond.level,
+        level_back c.bond.level,
         bonded.says,
         string 16 137 _ (omega arith) (row 17),
       )
@@ -225,17 +224,17 @@ module _ (c : SetupCall) (s : Sound c) where
       test_first _ _ (eq-eqb _ _ size)
       (test_first _ _ (le-leb (number_at 2 1 payload) 512 (omega (arith, outbox, s.outbox)))
       (test_first _ _ (small 0 _ 2 start (start_small c.start))
-      (test_first _ _ (small 3 _ 4 io (io_small c.setup.io))
-      (test_first _ _ (small 4 _ 1 oob (oob_small c.setup.oob))
-      (test_first _ _ (small 5 _ 1 bonding (flag_small c.setup.bonding))
-      (test_first _ _ (small 6 _ 1 configured (configured_small c.setup.passkey))
-      (test_first _ _ (rw (configured, passkey) (configured_fits c.setup.passkey))
-      (test_first _ _ (small 91 _ 1 own.kind (kind_small c.setup.own.kind))
-      (test_first _ _ (small 98 _ 1 identity.kind (kind_small c.setup.identity.kind))
-      (test_first _ _ (small 105 _ 1 peer.kind (kind_small c.setup.peer.kind))
-      (test_first _ _ (small 112 _ 1 there (flag_small c.setup.known.there))
-      (test_first _ _ (small 129 _ 2 level (level_small c.setup.known.bond.level))
-      (test_first _ _ (small 130 _ 1 bonded.kind (kind_small c.setup.known.bond.address.kind))
+      (test_first _ _ (small 3 _ 4 io (io_small c.io))
+      (test_first _ _ (small 4 _ 1 oob (oob_small c.oob))
+      (test_first _ _ (small 5 _ 1 bonding (flag_small c.bonding))
+      (test_first _ _ (small 6 _ 1 configured (configured_small c.passkey))
+      (test_first _ _ (rw (configured, passkey) (configured_fits c.passkey))
+      (test_first _ _ (small 91 _ 1 own.kind (kind_small c.own.kind))
+      (test_first _ _ (small 98 _ 1 identity.kind (kind_small c.identity.kind))
+      (test_first _ _ (small 105 _ 1 peer.kind (kind_small c.peer.kind))
+      (test_first _ _ (small 112 _ 1 there (flag_small c.there))
+      (test_first _ _ (small 129 _ 2 level (level_small c.bond.level))
+      (test_first _ _ (small 130 _ 1 bonded.kind (kind_small c.bond.address.kind))
       test_none)))))))))))))
 
   pub read_put : read_setup (setup_octets c) ≡ Some c

@@ -1,5 +1,6 @@
 -- No second answer meets a public contract of this crate. Assumes nothing.
 use Rattle.octets.proofs.Settles.{Unique, Settles, only, only_wrote}
+use Rattle.setups.proofs.SetupCall.setup.Reads as setup
 use Rattle.setups.proofs.read_setup.Reads as read-setup
 use Rattle.setups.proofs.put_setup.Reads as put-setup
 
@@ -8,3 +9,6 @@ read_setup_unique κs a z z' e e' p q = only p q
 
 pub put_setup_settled : Settles put-setup.Post (λ κs e. e.0.now)
 put_setup_settled κs a z z' e e' p q = only_wrote p q
+
+pub setup_unique : Unique setup.Post
+setup_unique κs a z z' e e' p q = only p q

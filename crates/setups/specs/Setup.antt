@@ -1,5 +1,5 @@
 -- The payload of a setup: 153 bytes, rows and offsets as in docs/CALLS.md.
-use Rattle.std.specs.Prelude.{ℕ, ◌+◌, List, [], ◌∷◌, Bool, true, cond, Option, Some, None, Result, Ok, Err, length, get_or, eqb, leb}
+use Rattle.std.specs.Prelude.{ℕ, ◌+◌, List, [], ◌∷◌, Bool, true, cond, Option, Some, None, is_some, unwrap_or, Result, Ok, Err, length, get_or, eqb, leb}
 use Rattle.address.specs.declared.Address.{Address}
 use Rattle.address.specs.declared.AddressKind.{AddressKind}
 use Rattle.address.specs.declared.AddressKind.TheVariants.{Public, Random}
@@ -7,9 +7,8 @@ use Rattle.address.specs.Identity.{kind_number}
 use Rattle.features.specs.Features.{io_number, io_of, oob_number, oob_of}
 use Rattle.method.specs.declared.SecurityLevel.{SecurityLevel}
 use Rattle.method.specs.declared.SecurityLevel.TheVariants.{NoEncryption, Encrypted, EncryptedAuthenticated}
-use Rattle.protocol.specs.declared.Configured.{Configured}
-use Rattle.protocol.specs.declared.Configured.TheVariants.{Nothing, Passkey}
-use Rattle.protocol.specs.declared.MaybeBond.{MaybeBond}
+use Rattle.method.specs.Method.{level_number}
+use Rattle.protocol.specs.declared.Bond.{Bond}
 use Rattle.protocol.specs.declared.Setup.{Setup}
 use Rattle.setups.specs.declared.StartKind.{StartKind}
 use Rattle.setups.specs.declared.StartKind.TheVariants.{Plain, ByUser, NotByUser}
@@ -40,68 +39,63 @@ start_of n = cond (eqb n 0) Plain (cond (eqb n 1) ByUser NotByUser)
 abbrev pub numbered_start : ℕ → Result StartKind UnknownStart
 numbered_start n = cond (leb n 2) (Ok (start_of n)) (Err (record { 0 = n }))
 
-abbrev pub level_number : SecurityLevel → ℕ
-level_number NoEncryption = 0
-level_number Encrypted = 1
-level_number EncryptedAuthenticated = 2
-
 abbrev pub level_of : ℕ → SecurityLevel
 level_of n = cond (eqb n 0) NoEncryption (cond (eqb n 1) Encrypted EncryptedAuthenticated)
 
 -- whether a passkey is configured, and which; 0 where none is
-abbrev pub configured_number : Configured → ℕ
-configured_number Nothing = 0
-configured_number (Passkey n) = 1
+abbrev pub configured_number : Option ℕ → ℕ
+configured_number o = flag_number (is_some o)
 
-abbrev pub configured_passkey : Configured → ℕ
-configured_passkey Nothing = 0
-configured_passkey (Passkey n) = n
+abbrev pub configured_passkey : Option ℕ → ℕ
+configured_passkey o = unwrap_or o 0
 
-abbrev pub configured_of : ℕ → ℕ → Configured
-configured_of k n = cond (eqb k 1) (Passkey n) Nothing
+abbrev pub configured_of : ℕ → ℕ → Option ℕ
+configured_of k n = cond (eqb k 1) (Some n) None
 
 -- the rows, with their offsets: the known bond's, then the box's with these behind, then all
-abbrev pub bond_rows : MaybeBond → List (List ℕ)
-bond_rows k =
-    one (flag_number k.there)  -- 112
-    ∷ k.bond.ltk  -- 113
-    ∷ one (level_number k.bond.level)  -- 129
-    ∷ address_octets k.bond.address  -- 130
-    ∷ k.bond.irk  -- 137
+abbrev pub bond_rows : Bool → Bond → List (List ℕ)
+bond_rows there bond =
+    one (flag_number there)  -- 112
+    ∷ bond.ltk  -- 113
+    ∷ one (level_number bond.level)  -- 129
+    ∷ address_octets bond.address  -- 130
+    ∷ bond.irk  -- 137
     ∷ []
 
-abbrev pub box_rows : Setup → List (List ℕ)
-box_rows s =
-    s.keyx  -- 11
-    ∷ s.keyy  -- 43
-    ∷ s.irk  -- 75
-    ∷ address_octets s.own  -- 91
-    ∷ address_octets s.identity  -- 98
-    ∷ address_octets s.peer  -- 105
-    ∷ bond_rows s.known
+abbrev pub box_rows : SetupCall → List (List ℕ)
+box_rows c =
+    c.keyx  -- 11
+    ∷ c.keyy  -- 43
+    ∷ c.irk  -- 75
+    ∷ address_octets c.own  -- 91
+    ∷ address_octets c.identity  -- 98
+    ∷ address_octets c.peer  -- 105
+    ∷ bond_rows c.there c.bond
 
 abbrev pub setup_rows : SetupCall → List (List ℕ)
 setup_rows c =
     one (start_number c.start)  -- 0
     ∷ little 2 c.outbox  -- 1
-    ∷ one (io_number c.setup.io)  -- 3
-    ∷ one (oob_number c.setup.oob)  -- 4
-    ∷ one (flag_number c.setup.bonding)  -- 5
-    ∷ one (configured_number c.setup.passkey)  -- 6
-    ∷ little 4 (configured_passkey c.setup.passkey)  -- 7
-    ∷ box_rows c.setup
+    ∷ one (io_number c.io)  -- 3
+    ∷ one (oob_number c.oob)  -- 4
+    ∷ one (flag_number c.bonding)  -- 5
+    ∷ one (configured_number c.passkey)  -- 6
+    ∷ little 4 (configured_passkey c.passkey)  -- 7
+    ∷ box_rows c
 
 -- the payload; none where the outbox's length is above 512
 unfoldable pub setup_octets : SetupCall → List ℕ
 setup_octets c = cond (leb c.outbox 512) (join (setup_rows c)) []
 
 -- what a payload says
-abbrev pub known_at : List ℕ → MaybeBond
-known_at l = record { there = flag_at 112 l; bond = record { ltk = field 16 113 l; level = level_of (get_or l 129 0); address = address_at 130 l; irk = field 16 137 l } }
+abbrev pub bond_at : List ℕ → Bond
+bond_at l = record { ltk = field 16 113 l; level = level_of (get_or l 129 0); address = address_at 130 l; irk = field 16 137 l }
 
-abbrev pub setup_at : List ℕ → Setup
-setup_at l =
+unfoldable pub setup_call : List ℕ → SetupCall
+setup_call l =
     record {
+      start = start_of (get_or l 0 0);
+      outbox = number_at 2 1 l;
       io = io_of (get_or l 3 0);
       oob = oob_of (get_or l 4 0);
       bonding = flag_at 5 l;
@@ -112,11 +106,26 @@ setup_at l =
       own = address_at 91 l;
       identity = address_at 98 l;
       peer = address_at 105 l;
-      known = known_at l;
+      there = flag_at 112 l;
+      bond = bond_at l;
     }
 
-unfoldable pub setup_call : List ℕ → SetupCall
-setup_call l = record { start = start_of (get_or l 0 0); outbox = number_at 2 1 l; setup = setup_at l }
+-- the setup that is said: a bond that is not there is none
+abbrev pub setup_in : SetupCall → Setup
+setup_in c =
+    record {
+      io = c.io;
+      oob = c.oob;
+      bonding = c.bonding;
+      passkey = c.passkey;
+      keyx = c.keyx;
+      keyy = c.keyy;
+      irk = c.irk;
+      own = c.own;
+      identity = c.identity;
+      peer = c.peer;
+      known = cond c.there (Some c.bond) None;
+    }
 
 -- where no passkey is configured its number is 0
 abbrev pub passkey_fits : List ℕ → Bool

@@ -12,17 +12,14 @@ ghost use Rattle.setups.specs.Setup.{
   start_number,
   numbered_start,
   start_of,
-  level_number,
   level_of,
-  configured_number,
-  configured_passkey,
   configured_of,
   bond_rows,
   box_rows,
   setup_rows,
   setup_octets,
-  known_at,
-  setup_at,
+  bond_at,
+  setup_in,
   setup_call,
   passkey_fits,
   setup_fits,
@@ -30,8 +27,9 @@ ghost use Rattle.setups.specs.Setup.{
 };
 
 use address::{Address, AddressKind};
+use features::{IoCapabilities, UseOutOfBand};
 use method::SecurityLevel;
-use protocol::{Bond, Configured, MaybeBond, Setup};
+use protocol::{Bond, Setup};
 
 // How the pairing starts: plain, or with a Security Request by the user's wish or not.
 #[derive(Clone, Copy)]
@@ -72,12 +70,45 @@ impl TryFrom<u8> for StartKind {
     }
 }
 
-// `outbox` is the outbox's length.
+// What a setup's payload says, in its order. `outbox` is the outbox's length. `bond` stands in a payload whether or not there is a known bond, as
+// `there` says, so that what was read and is written again has the same bytes.
 #[derive(Clone, Copy)]
 pub struct SetupCall {
     pub start: StartKind,
     pub outbox: usize,
-    pub setup: Setup,
+    pub io: IoCapabilities,
+    pub oob: UseOutOfBand,
+    pub bonding: bool,
+    pub passkey: Option<u32>,
+    pub keyx: [u8; 32],
+    pub keyy: [u8; 32],
+    pub irk: [u8; 16],
+    pub own: Address,
+    pub identity: Address,
+    pub peer: Address,
+    pub there: bool,
+    pub bond: Bond,
+}
+
+impl SetupCall {
+    // The setup: what the side is.
+    pub fn setup(self) -> Setup
+        ensures { result ≡ setup_in self }
+    {
+        Setup {
+            io: self.io,
+            oob: self.oob,
+            bonding: self.bonding,
+            passkey: self.passkey,
+            keyx: self.keyx,
+            keyy: self.keyy,
+            irk: self.irk,
+            own: self.own,
+            identity: self.identity,
+            peer: self.peer,
+            known: if self.there { Some(self.bond) } else { None },
+        }
+    }
 }
 
 // The setup in a payload; none where the payload doesn't fit.
@@ -139,14 +170,6 @@ fn setup_call(p: &[u8]) -> SetupCall
     SetupCall {
         start: StartKind::try_from(fields::byte(p, 0)).unwrap_or(StartKind::NotByUser),
         outbox: fields::half(p, 1),
-        setup: setup_of(p),
-    }
-}
-
-fn setup_of(p: &[u8]) -> Setup
-    ensures { result ≡ setup_at p.now }
-{
-    Setup {
         io: features::io_of(fields::byte(p, 3)),
         oob: features::oob_of(fields::byte(p, 4)),
         bonding: fields::byte(p, 5) == 1,
@@ -157,31 +180,30 @@ fn setup_of(p: &[u8]) -> Setup
         own: address_of(p, 91),
         identity: address_of(p, 98),
         peer: address_of(p, 105),
-        known: bond_of(p),
-    }
-}
-
-fn bond_of(p: &[u8]) -> MaybeBond
-    ensures { result ≡ known_at p.now }
-{
-    MaybeBond {
         there: fields::byte(p, 112) == 1,
-        bond: Bond {
-            ltk: fields::array(p, 113),
-            level: level_of(fields::byte(p, 129)),
-            address: address_of(p, 130),
-            irk: fields::array(p, 137),
-        },
+        bond: bond_of(p),
     }
 }
 
-fn configured_of(p: &[u8]) -> Configured
+fn bond_of(p: &[u8]) -> Bond
+    ensures { result ≡ bond_at p.now }
+{
+    Bond {
+        ltk: fields::array(p, 113),
+        level: level_of(fields::byte(p, 129)),
+        address: address_of(p, 130),
+        irk: fields::array(p, 137),
+    }
+}
+
+fn configured_of(p: &[u8]) -> Option<u32>
     ensures { result ≡ configured_of (get_or p.now 6 0) (number_at 4 7 p.now) }
 {
     if fields::byte(p, 6) == 1 {
-        return Configured::Passkey(fields::word(p, 7));
+        Some(fields::word(p, 7))
+    } else {
+        None
     }
-    Configured::Nothing
 }
 
 fn address_of(p: &[u8], at: usize) -> Address
@@ -198,17 +220,16 @@ fn address_of(p: &[u8], at: usize) -> Address
 fn setup_head(call: SetupCall) -> [u8; 11]
     ensures { result ≡ join (take 7 (setup_rows call)) }
 {
-    let setup = call.setup;
     let outbox = fields::bytes2(call.outbox);
-    let digits = fields::bytes4(configured_passkey(setup.passkey));
+    let digits = fields::bytes4(call.passkey.unwrap_or(0));
     [
         u8::from(call.start),
         outbox[0],
         outbox[1],
-        u8::from(setup.io),
-        u8::from(setup.oob),
-        u8::from(setup.bonding),
-        configured_number(setup.passkey),
+        u8::from(call.io),
+        u8::from(call.oob),
+        u8::from(call.bonding),
+        u8::from(call.passkey.is_some()),
         digits[0],
         digits[1],
         digits[2],
@@ -222,19 +243,19 @@ fn place_setup(out: &mut [u8], call: SetupCall)
     ensures { Placed 153 0 (join (setup_rows call)) out.old out.new }
 {
     fields::place_array(out, 0, &setup_head(call));
-    place_box(out, call.setup);
+    place_box(out, call);
 }
 
 // Our keys and the addresses, and the known bond.
-fn place_box(out: &mut [u8], setup: Setup)
+fn place_box(out: &mut [u8], call: SetupCall)
     requires { 153 ≤ length out.old }
-    ensures { Placed 142 11 (join (box_rows setup)) out.old out.new }
+    ensures { Placed 142 11 (join (box_rows call)) out.old out.new }
 {
-    fields::place_array(out, 11, &setup.keyx);
-    fields::place_array(out, 43, &setup.keyy);
-    fields::place_array(out, 75, &setup.irk);
-    place_addresses(out, setup.own, setup.identity, setup.peer);
-    place_bond(out, setup.known);
+    fields::place_array(out, 11, &call.keyx);
+    fields::place_array(out, 43, &call.keyy);
+    fields::place_array(out, 75, &call.irk);
+    place_addresses(out, call.own, call.identity, call.peer);
+    place_bond(out, call.there, call.bond);
 }
 
 // The three addresses.
@@ -248,14 +269,13 @@ fn place_addresses(out: &mut [u8], own: Address, identity: Address, peer: Addres
 }
 
 // The known bond.
-fn place_bond(out: &mut [u8], known: MaybeBond)
+fn place_bond(out: &mut [u8], there: bool, bond: Bond)
     requires { 153 ≤ length out.old }
-    ensures { Placed 41 112 (join (bond_rows known)) out.old out.new }
+    ensures { Placed 41 112 (join (bond_rows there bond)) out.old out.new }
 {
-    let bond = known.bond;
-    fields::place_array(out, 112, &[u8::from(known.there)]);
+    fields::place_array(out, 112, &[u8::from(there)]);
     fields::place_array(out, 113, &bond.ltk);
-    fields::place_array(out, 129, &[level_number(bond.level)]);
+    fields::place_array(out, 129, &[u8::from(bond.level)]);
     place_address(out, 130, bond.address);
     fields::place_array(out, 137, &bond.irk);
 }
@@ -269,50 +289,17 @@ fn place_address(out: &mut [u8], at: usize, address: Address)
     fields::place_array(out, at, &[kind, o[0], o[1], o[2], o[3], o[4], o[5]]);
 }
 
-// The numbers of docs/CALLS.md for types of other crates, which may not be given `From` and `TryFrom` here.
+// Range tests ask these two of numbers in range alone.
+#[tactic(auto, using(crate::proofs::Starts::kind_told))]
 fn address_kind_of(number: u8) -> AddressKind
     ensures { result ≡ kind_of number }
 {
-    match number {
-        0 => AddressKind::Public,
-        _ => AddressKind::Random,
-    }
+    AddressKind::try_from(number).unwrap_or(AddressKind::Random)
 }
 
-fn level_number(level: SecurityLevel) -> u8
-    ensures { result ≡ level_number level }
-{
-    match level {
-        SecurityLevel::NoEncryption => 0,
-        SecurityLevel::Encrypted => 1,
-        SecurityLevel::EncryptedAuthenticated => 2,
-    }
-}
-
+#[tactic(auto, using(crate::proofs::Starts::level_told))]
 fn level_of(number: u8) -> SecurityLevel
     ensures { result ≡ level_of number }
 {
-    match number {
-        0 => SecurityLevel::NoEncryption,
-        1 => SecurityLevel::Encrypted,
-        _ => SecurityLevel::EncryptedAuthenticated,
-    }
-}
-
-fn configured_number(passkey: Configured) -> u8
-    ensures { result ≡ configured_number passkey }
-{
-    match passkey {
-        Configured::Nothing => 0,
-        Configured::Passkey(_number) => 1,
-    }
-}
-
-fn configured_passkey(passkey: Configured) -> u32
-    ensures { result ≡ configured_passkey passkey }
-{
-    match passkey {
-        Configured::Nothing => 0,
-        Configured::Passkey(number) => number,
-    }
+    SecurityLevel::try_from(number).unwrap_or(SecurityLevel::EncryptedAuthenticated)
 }

@@ -12,4 +12,4 @@ returns c =
     let f = more f c.place_array-3.ensures refl in
     let f = more f c.place_address.ensures refl in
     let f = more f c.place_array-4.ensures refl in
-    as_rows _ f.placed (rw (c.from.ensures, flag_byte c.args.known.there, c.level_number.ensures) (bond_rows_lem c.args.known))
+    as_rows _ f.placed (rw (c.from.ensures, flag_byte c.args.there, c.from-2.ensures) (bond_rows_lem c.args.there c.args.bond))

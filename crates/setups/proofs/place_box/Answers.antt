@@ -11,4 +11,4 @@ returns c =
     let f = more f c.place_array-3.ensures refl in
     let f = more f c.place_addresses.ensures refl in
     let f = more f c.place_bond.ensures refl in
-    as_rows _ f.placed (box_rows_lem c.args.setup)
+    as_rows _ f.placed (box_rows_lem c.args.call)
