@@ -20,7 +20,7 @@ use Rattle.protocol.specs.declared.Failure.TheVariants as F
 use Rattle.protocol.specs.declared.Question.{Question}
 use Rattle.protocol.specs.declared.Refusal.{Refusal}
 use Rattle.protocol.specs.declared.Supplied.{Supplied}
-use Rattle.protocol.specs.Plan.{Plan, Reply, ends, asks, draws_nonce, draws_passkey, tests, refuses, fails, moves, reply, runs, needs}
+use Rattle.protocol.specs.Plan.{Plan, kind_of, Reply, ends, asks, draws_nonce, draws_passkey, tests, refuses, fails, moves, reply, runs, needs}
 use Rattle.protocol.specs.Parts.{is_value, is_key, key_x, key_y, verdict_of}
 use Rattle.protocol.specs.Role.{Role, Outcome, said}
 use Rattle.protocol.specs.Met.{Met, Followed}
@@ -95,7 +95,7 @@ module _ {S T : Type 0} {role : Role S} {given : Outcome S → ℕ → T} {chann
 
   -- Before an end
 
-  pub asking : {q : Question} {k : Reply q.kind → Plan S} {before after : List ℕ} → Followed role given channel m a (k (reply a q.kind)) r before after
+  pub asking : {q : Question} {k : Reply (kind_of q) → Plan S} {before after : List ℕ} → Followed role given channel m a (k (reply a (kind_of q))) r before after
       → Followed role given channel m a (asks q k) r before after
   unfolding runs
   asking h = record { met = h.met }

@@ -1,5 +1,5 @@
 -- What the proofs of the query cite, for every role: the next question is looked for through each test, question and draw. Assumes nothing.
-use Rattle.std.specs.Prelude.{Result, Ok, Err}
+use Rattle.std.specs.Prelude.{Option, Some, None, Result, Ok, Err}
 use Prim.Native.Nat.{ℕ}
 use mathlib.Core.Path.{◌≡◌, refl, sym, ap, ◌∙◌}
 use mathlib.Core.List.{List}
@@ -9,30 +9,30 @@ use Rattle.protocol.specs.declared.Failure.TheVariants as F
 use Rattle.protocol.specs.declared.Given.{Given}
 use Rattle.protocol.specs.declared.Question.{Question}
 use Rattle.protocol.specs.declared.Supplied.{Supplied}
-use Rattle.protocol.specs.Plan.{Plan, Ending, Reply, ends, asks, draws_nonce, draws_passkey, tests, reply, asked, needs}
-use Rattle.protocol.specs.Parts.{no_question, verdict_of}
+use Rattle.protocol.specs.Plan.{Plan, Ending, kind_of, Reply, ends, asks, draws_nonce, draws_passkey, tests, reply, asked, needs}
+use Rattle.protocol.specs.Parts.{verdict_of}
 use Rattle.protocol.specs.Next.{known, next_of, Queried}
 use Rattle.protocol.proofs.Follows.{awaited_wrong}
 
-module _ {S : Type 0} {g : Given} {a : Supplied} {r : Question} where
+module _ {S : Type 0} {g : Given} {a : Supplied} {r : Option Question} where
   -- an end asks nothing
-  pub asks_nothing : {e : Ending S} → r ≡ no_question → Queried g a (ends e) r
+  pub asks_nothing : {e : Ending S} → r ≡ None → Queried g a (ends e) r
   unfolding next_of asked
   asks_nothing h = record { next = h }
 
   -- a question without its answer; and one that has it
-  pub asks_now : {q : Question} {k : Reply q.kind → Plan S} → known g q.kind ≡ false → r ≡ q → Queried g a (asks q k) r
+  pub asks_now : {q : Question} {k : Reply (kind_of q) → Plan S} → known g (kind_of q) ≡ false → r ≡ Some q → Queried g a (asks q k) r
   unfolding next_of asked
   asks_now i h = record { next = rw i h }
 
-  pub asks_later : {q : Question} {k : Reply q.kind → Plan S} → known g q.kind ≡ true → Queried g a (k (reply a q.kind)) r → Queried g a (asks q k) r
+  pub asks_later : {q : Question} {k : Reply (kind_of q) → Plan S} → known g (kind_of q) ≡ true → Queried g a (k (reply a (kind_of q))) r → Queried g a (asks q k) r
   unfolding next_of asked
   asks_later i h = record { next = rw i h.next }
 
   -- the last one: nothing is asked after it
-  pub asks_last : {q : Question} {k : Reply q.kind → Plan S} → Queried g a (k (reply a q.kind)) no_question → r ≡ cond (known g q.kind) no_question q → Queried g a (asks q k) r
+  pub asks_last : {q : Question} {k : Reply (kind_of q) → Plan S} → Queried g a (k (reply a (kind_of q))) None → r ≡ cond (known g (kind_of q)) None (Some q) → Queried g a (asks q k) r
   unfolding next_of asked
-  asks_last {q} {k} i h = record { next = h ∙ ap (λ x. cond (known g q.kind) x q) i.next }
+  asks_last {q} {k} i h = record { next = h ∙ ap (λ x. cond (known g (kind_of q)) x (Some q)) i.next }
 
   pub draws : {k : List ℕ → Plan S} → Queried g a (k a.nonce) r → Queried g a (draws_nonce k) r
   unfolding asked
@@ -57,7 +57,7 @@ module _ {S : Type 0} {g : Given} {a : Supplied} {r : Question} where
   either {b = false} h i = stopped refl i
 
   -- a command's code and length, judged
-  pub wrong_asks : {A : Type 0} {b d : Bool} {f x : Failure} (y : A) {v : Result A Failure} {q : Plan S} → v ≡ verdict_of b d f y → v ≡ Err x → r ≡ no_question → Queried g a (needs b F.InvalidState (needs d f q)) r
+  pub wrong_asks : {A : Type 0} {b d : Bool} {f x : Failure} (y : A) {v : Result A Failure} {q : Plan S} → v ≡ verdict_of b d f y → v ≡ Err x → r ≡ None → Queried g a (needs b F.InvalidState (needs d f q)) r
   unfolding verdict_of
   wrong_asks {b = true} {d = true} y e w h = absurd (awaited_wrong (sym e ∙ w))
   wrong_asks {b = true} {d = false} y e w h = passed refl (stopped refl (asks_nothing h))

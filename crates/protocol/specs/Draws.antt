@@ -1,7 +1,7 @@
 -- What a plan draws, and what a call: a nonce or a passkey, in order.
 use Rattle.std.specs.Prelude.{ℕ, ◌≡◌, List, [], ◌∷◌, cond}
 use Rattle.protocol.specs.declared.Supplied.{Supplied}
-use Rattle.protocol.specs.Plan.{Plan, ends, asks, draws_nonce, draws_passkey, tests, reply}
+use Rattle.protocol.specs.Plan.{Plan, ends, asks, draws_nonce, draws_passkey, tests, kind_of, reply}
 use Rattle.protocol.specs.Role.{Role, Input, enough, plan, step, questions}
 
 pub data Draw : Type 0 where
@@ -18,7 +18,7 @@ drawn a passkey = a.passkey
 
 unfoldable pub draws : {S : Type 0} → Supplied → Plan S → List Draw
 draws a (ends e) = []
-draws a (asks q k) = draws a (k (reply a q.kind))
+draws a (asks q k) = draws a (k (reply a (kind_of q)))
 draws a (draws_nonce k) = nonce ∷ draws a (k a.nonce)
 draws a (draws_passkey k) = passkey ∷ draws a (k a.passkey)
 draws a (tests b p q) = cond b (draws a p) (draws a q)

@@ -3,7 +3,7 @@ use Rattle.std.specs.Prelude.{ℕ, List}
 use Rattle.octets.specs.Octets.{zeros}
 use Rattle.rounds.specs.Rounds.{secret_of}
 use Rattle.protocol.specs.declared.Question.{Question}
-use Rattle.protocol.specs.declared.QuestionKind.TheVariants as Q
+use Rattle.protocol.specs.declared.Question.TheVariants as Q
 use Rattle.protocol.specs.declared.Secrets.{Secrets}
 use Rattle.protocol.specs.declared.Setup.{Setup}
 use Rattle.protocol.specs.Parts.{ask_f4}

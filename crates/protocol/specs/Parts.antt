@@ -1,6 +1,6 @@
 -- The parts that plans are made of: how a packet that comes is read, which passkey is shown, and what is asked. Of any type S of states.
 use Rattle.std.specs.Prelude.{ℕ, List, Bool, cond, not, length, take, drop, eqb, ltb, Option, Some, None, is_some, unwrap_or, Result, Ok, Err}
-use Rattle.octets.specs.Octets.{flip, zeros}
+use Rattle.octets.specs.Octets.{flip}
 use Rattle.address.specs.declared.Address.{Address}
 use Rattle.address.specs.Identity.{decode_of as address_of}
 use Rattle.features.specs.declared.PairingFeatures.{PairingFeatures}
@@ -8,12 +8,13 @@ use Rattle.features.specs.Features.{decode_of}
 use Rattle.features.specs.Bits.{secure_connections_bit}
 use Rattle.rounds.specs.Rounds.{in_range}
 use Rattle.frames.specs.Packets.{public_key_code, check_code, identity_address_code}
+use Rattle.protocol.specs.declared.Check.{Check}
+use Rattle.protocol.specs.declared.Commitment.{Commitment}
 use Rattle.protocol.specs.declared.ConnectionEvent.{ConnectionEvent}
 use Rattle.protocol.specs.declared.Failure.{Failure}
 use Rattle.protocol.specs.declared.Failure.TheVariants as F
 use Rattle.protocol.specs.declared.Question.{Question}
-use Rattle.protocol.specs.declared.QuestionKind.{QuestionKind}
-use Rattle.protocol.specs.declared.QuestionKind.TheVariants as Q
+use Rattle.protocol.specs.declared.Question.TheVariants as Q
 use Rattle.protocol.specs.declared.Refusal.TheVariants as R
 use Rattle.protocol.specs.Plan.{Plan, ends, draws_passkey, tests, refuses, fails, needs, nowhere}
 
@@ -86,33 +87,24 @@ module _ {S : Type 0} where
   shown None p = draws_passkey λ n. tests (in_range n) (p n) (ends (refuses R.PasskeyRange))
   shown (Some n) p = p n
 
--- What is asked. What a kind of question doesn't take is zero
-
-abbrev pub no_question : Question
-no_question =
-    record { kind = Q.Nothing; u = zeros 32; v = zeros 32; key = zeros 16; n1 = zeros 16; n2 = zeros 16; r = zeros 16; z = 0; iocap = zeros 3; a1 = nowhere; a2 = nowhere }
+-- What is asked
 
 -- the DHKey of a public key (Part H 2.3.5.6.1)
 abbrev pub ask_dh : List ℕ → List ℕ → Question
-ask_dh x y =
-    record { kind = Q.DH; u = x; v = y; key = zeros 16; n1 = zeros 16; n2 = zeros 16; r = zeros 16; z = 0; iocap = zeros 3; a1 = nowhere; a2 = nowhere }
+ask_dh x y = Q.DH x y
 
--- f4(U, V, X, Z), Part H 2.2.6
-abbrev pub ask_f4 : QuestionKind → List ℕ → List ℕ → List ℕ → ℕ → Question
-ask_f4 k u v x z =
-    record { kind = k; u = u; v = v; key = zeros 16; n1 = x; n2 = zeros 16; r = zeros 16; z = z; iocap = zeros 3; a1 = nowhere; a2 = nowhere }
+-- f4(U, V, X, Z), Part H 2.2.6, for our confirm or for the peer's
+abbrev pub ask_f4 : (Commitment → Question) → List ℕ → List ℕ → List ℕ → ℕ → Question
+ask_f4 whose u v x z = whose (record { u = u; v = v; x = x; z = z })
 
 -- f5(W, N1, N2, A1, A2), Part H 2.2.7
 abbrev pub ask_f5 : List ℕ → List ℕ → List ℕ → Address → Address → Question
-ask_f5 w n1 n2 a1 a2 =
-    record { kind = Q.F5; u = w; v = zeros 32; key = zeros 16; n1 = n1; n2 = n2; r = zeros 16; z = 0; iocap = zeros 3; a1 = a1; a2 = a2 }
+ask_f5 w n1 n2 a1 a2 = Q.F5 w n1 n2 a1 a2
 
--- f6(W, N1, N2, R, IOcap, A1, A2), Part H 2.2.8
-abbrev pub ask_f6 : QuestionKind → List ℕ → List ℕ → List ℕ → List ℕ → List ℕ → Address → Address → Question
-ask_f6 k w n1 n2 r iocap a1 a2 =
-    record { kind = k; u = zeros 32; v = zeros 32; key = w; n1 = n1; n2 = n2; r = r; z = 0; iocap = iocap; a1 = a1; a2 = a2 }
+-- f6(W, N1, N2, R, IOcap, A1, A2), Part H 2.2.8, for the peer's check or for ours
+abbrev pub ask_f6 : (Check → Question) → List ℕ → List ℕ → List ℕ → List ℕ → List ℕ → Address → Address → Question
+ask_f6 whose w n1 n2 r iocap a1 a2 = whose (record { w = w; n1 = n1; n2 = n2; r = r; iocap = iocap; a1 = a1; a2 = a2 })
 
 -- g2(U, V, X, Y), Part H 2.2.9
 abbrev pub ask_g2 : List ℕ → List ℕ → List ℕ → List ℕ → Question
-ask_g2 u v x y =
-    record { kind = Q.G2; u = u; v = v; key = zeros 16; n1 = x; n2 = y; r = zeros 16; z = 0; iocap = zeros 3; a1 = nowhere; a2 = nowhere }
+ask_g2 u v x y = Q.G2 u v x y

@@ -1,6 +1,5 @@
 -- What stands in this crate, a second time, by samples: what is made here, and beside it what the scope and Part H say that it is. One table.
 use Rattle.std.specs.Prelude.{ℕ, List, [], ◌∷◌, ◌++◌, map, reverse, Bool, true, false, cond, Option, Some, None, Result, Ok, Err}
-use Rattle.octets.specs.Octets.{zeros}
 use Rattle.features.specs.declared.IoCapabilities.TheVariants.{KeyboardOnly}
 use Rattle.features.specs.declared.UseOutOfBand.TheVariants.{Present}
 use Rattle.features.specs.Features.{encode_of}
@@ -18,7 +17,8 @@ use Rattle.protocol.specs.declared.Failure.{Failure}
 use Rattle.protocol.specs.declared.Failure.TheVariants as F
 use Rattle.protocol.specs.declared.Given.{Given}
 use Rattle.protocol.specs.declared.Question.{Question}
-use Rattle.protocol.specs.declared.QuestionKind.TheVariants as Q
+use Rattle.protocol.specs.declared.Question.TheVariants as Q
+use Rattle.protocol.specs.declared.QuestionKind.TheVariants as K
 use Rattle.protocol.specs.declared.Refusal.TheVariants as R
 use Rattle.protocol.specs.declared.Secrets.{Secrets}
 use Rattle.protocol.specs.declared.Setup.{Setup}
@@ -27,10 +27,10 @@ use Rattle.protocol.specs.Next.{known}
 use Rattle.protocol.specs.Numbers.{failure_number, refusal_number}
 use Rattle.protocol.specs.Plan.{Plan, Ending, ends, refuses, fails, moves, goes, unlisted, reply, runs}
 use Rattle.protocol.specs.Parts as Parts
-use Rattle.protocol.specs.Parts.{verdict_of, no_question, ask_dh, ask_f4, ask_f5, ask_f6, ask_g2}
+use Rattle.protocol.specs.Parts.{verdict_of, ask_dh, ask_f4, ask_f5, ask_f6, ask_g2}
 use Rattle.protocol.specs.Role.{Role, Input, command, event, Outcome, said as said_of, plan}
 use Rattle.protocol.specs.Exchanged.{fresh, set_confirm, set_nonces, set_peer_nonce, set_own_nonce, set_secrets, set_passkey, set_held, own_confirm, peer_confirm}
-use Rattle.protocol.specs.Values.{from, none, public, random, nobody, our_x, our_irk, peer_x, dh_key, confirm, peer_nonce, our_nonce, peer_secret, our_secret, check, new_key, our_confirm, mac_key, link_key, our_check, new_x, new_y, value, question, f4, secrets, secret, bond, setup, handing, had}
+use Rattle.protocol.specs.Values.{from, none, public, random, nobody, our_x, our_irk, peer_x, dh_key, confirm, peer_nonce, our_nonce, peer_secret, our_secret, check, new_key, our_confirm, mac_key, link_key, our_check, new_x, new_y, value, dh, f4, f5, f6, g2, secrets, secret, bond, setup, handing, had}
 
 -- What is shown: a question, what is kept, octets or numbers, a number of the scope, a verdict, an end, an outcome
 pub data Shown : Type 0 where
@@ -99,7 +99,7 @@ features code body = reads given (Parts.features 0x01 (Some E.BondLost) code bod
 abbrev answers : Bool → Bool → Bool → Bool → Bool → Bool → Bool → Shown
 answers dh ownconfirm peerconfirm g2 f5 peercheck owncheck =
     let g : Given = record { dh = dh; ownconfirm = ownconfirm; peerconfirm = peerconfirm; g2 = g2; f5 = f5; peercheck = peercheck; owncheck = owncheck } in
-    list (map (λ k. cond (known g k) 1 0) (Q.Nothing ∷ Q.DH ∷ Q.OwnConfirm ∷ Q.PeerConfirm ∷ Q.G2 ∷ Q.F5 ∷ Q.PeerCheck ∷ Q.OwnCheck ∷ []))
+    list (map (λ k. cond (known g k) 1 0) (K.DH ∷ K.OwnConfirm ∷ K.PeerConfirm ∷ K.G2 ∷ K.F5 ∷ K.PeerCheck ∷ K.OwnCheck ∷ []))
 
 -- a role that reads whatever comes, and is never finished; what an input to it comes to, with so many octets of outbox
 abbrev reader : Role (List ℕ)
@@ -117,35 +117,34 @@ types p = event (I.PassKeyInput p)
 
 unfoldable pub rows : List Row
 rows =
-    -- The questions, with what they do not take
-    row (asked no_question) (asked (question Q.Nothing (zeros 32) (zeros 32) none none none none 0 (zeros 3) nobody nobody))
-    ∷ row (asked (ask_dh new_x new_y)) (asked (question Q.DH new_x new_y none none none none 0 (zeros 3) nobody nobody))
-    ∷ row (asked (ask_f4 Q.OwnConfirm new_x new_y value 0x81)) (asked (question Q.OwnConfirm new_x new_y none value none none 0x81 (zeros 3) nobody nobody))
-    ∷ row (asked (ask_g2 new_x new_y value check)) (asked (question Q.G2 new_x new_y none value check none 0 (zeros 3) nobody nobody))
+    -- The questions, with their arguments in order
+    row (asked (ask_dh new_x new_y)) (asked (dh new_x new_y))
+    ∷ row (asked (ask_f4 Q.OwnConfirm new_x new_y value 0x81)) (asked (f4 Q.OwnConfirm new_x new_y value 0x81))
+    ∷ row (asked (ask_g2 new_x new_y value check)) (asked (g2 new_x new_y value check))
     ∷ row (asked (ask_f5 new_x value check (public (from 1 6)) (random (from 2 6))))
-    (asked (question Q.F5 new_x (zeros 32) none value check none 0 (zeros 3) (public (from 1 6)) (random (from 2 6))))
+    (asked (f5 new_x value check (public (from 1 6)) (random (from 2 6))))
     ∷ row (asked (ask_f6 Q.OwnCheck mac_key value check confirm (from 3 3) (public (from 1 6)) (random (from 2 6))))
-    (asked (question Q.OwnCheck (zeros 32) (zeros 32) mac_key value check confirm 0 (from 3 3) (public (from 1 6)) (random (from 2 6))))
+    (asked (f6 Q.OwnCheck mac_key value check confirm (from 3 3) (public (from 1 6)) (random (from 2 6))))
     -- our confirm is f4(our x, peer x, our nonce, z); the peer's is f4(peer x, our x, peer nonce, z)
     ∷ row (asked (own_confirm our had value 0x81)) (asked (f4 Q.OwnConfirm our_x peer_x value 0x81))
     ∷ row (asked (peer_confirm our had value 0x81)) (asked (f4 Q.PeerConfirm peer_x our_x value 0x81))
     -- The answers
-    ∷ row (list (cond (reply given Q.DH).0 (reply given Q.DH).1 [])) (list new_key)
-    ∷ row (list (reply given Q.OwnConfirm)) (list our_confirm)
-    ∷ row (list (reply given Q.PeerConfirm)) (list confirm)
-    ∷ row (number (reply given Q.G2)) (number 4123456789)
-    ∷ row (list ((reply given Q.F5).0 ++ (reply given Q.F5).1)) (list (mac_key ++ link_key))
-    ∷ row (list (reply given Q.PeerCheck)) (list check)
-    ∷ row (list (reply given Q.OwnCheck)) (list our_check)
+    ∷ row (list (cond (reply given K.DH).0 (reply given K.DH).1 [])) (list new_key)
+    ∷ row (list (reply given K.OwnConfirm)) (list our_confirm)
+    ∷ row (list (reply given K.PeerConfirm)) (list confirm)
+    ∷ row (number (reply given K.G2)) (number 4123456789)
+    ∷ row (list ((reply given K.F5).0 ++ (reply given K.F5).1)) (list (mac_key ++ link_key))
+    ∷ row (list (reply given K.PeerCheck)) (list check)
+    ∷ row (list (reply given K.OwnCheck)) (list our_check)
     -- the kinds that have their answer, one given at a time
-    ∷ row (answers false false false false false false false) (list (1 ∷ 0 ∷ 0 ∷ 0 ∷ 0 ∷ 0 ∷ 0 ∷ 0 ∷ []))
-    ∷ row (answers true false false false false false false) (list (1 ∷ 1 ∷ 0 ∷ 0 ∷ 0 ∷ 0 ∷ 0 ∷ 0 ∷ []))
-    ∷ row (answers false true false false false false false) (list (1 ∷ 0 ∷ 1 ∷ 0 ∷ 0 ∷ 0 ∷ 0 ∷ 0 ∷ []))
-    ∷ row (answers false false true false false false false) (list (1 ∷ 0 ∷ 0 ∷ 1 ∷ 0 ∷ 0 ∷ 0 ∷ 0 ∷ []))
-    ∷ row (answers false false false true false false false) (list (1 ∷ 0 ∷ 0 ∷ 0 ∷ 1 ∷ 0 ∷ 0 ∷ 0 ∷ []))
-    ∷ row (answers false false false false true false false) (list (1 ∷ 0 ∷ 0 ∷ 0 ∷ 0 ∷ 1 ∷ 0 ∷ 0 ∷ []))
-    ∷ row (answers false false false false false true false) (list (1 ∷ 0 ∷ 0 ∷ 0 ∷ 0 ∷ 0 ∷ 1 ∷ 0 ∷ []))
-    ∷ row (answers false false false false false false true) (list (1 ∷ 0 ∷ 0 ∷ 0 ∷ 0 ∷ 0 ∷ 0 ∷ 1 ∷ []))
+    ∷ row (answers false false false false false false false) (list (0 ∷ 0 ∷ 0 ∷ 0 ∷ 0 ∷ 0 ∷ 0 ∷ []))
+    ∷ row (answers true false false false false false false) (list (1 ∷ 0 ∷ 0 ∷ 0 ∷ 0 ∷ 0 ∷ 0 ∷ []))
+    ∷ row (answers false true false false false false false) (list (0 ∷ 1 ∷ 0 ∷ 0 ∷ 0 ∷ 0 ∷ 0 ∷ []))
+    ∷ row (answers false false true false false false false) (list (0 ∷ 0 ∷ 1 ∷ 0 ∷ 0 ∷ 0 ∷ 0 ∷ []))
+    ∷ row (answers false false false true false false false) (list (0 ∷ 0 ∷ 0 ∷ 1 ∷ 0 ∷ 0 ∷ 0 ∷ []))
+    ∷ row (answers false false false false true false false) (list (0 ∷ 0 ∷ 0 ∷ 0 ∷ 1 ∷ 0 ∷ 0 ∷ []))
+    ∷ row (answers false false false false false true false) (list (0 ∷ 0 ∷ 0 ∷ 0 ∷ 0 ∷ 1 ∷ 0 ∷ []))
+    ∷ row (answers false false false false false false true) (list (0 ∷ 0 ∷ 0 ∷ 0 ∷ 0 ∷ 0 ∷ 1 ∷ []))
     -- What is kept: secrets not set are zero; of what is set anew, the rest stays
     ∷ row (kept (fresh new_x new_key)) (kept (secrets new_x new_key none none none none none 0 none))
     ∷ row (kept (set_confirm had value mac_key)) (kept (secrets peer_x dh_key value peer_nonce mac_key peer_secret our_secret 345678 check))

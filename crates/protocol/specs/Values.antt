@@ -8,9 +8,10 @@ use Rattle.features.specs.declared.IoCapabilities.{IoCapabilities}
 use Rattle.features.specs.declared.UseOutOfBand.{UseOutOfBand}
 use Rattle.method.specs.declared.SecurityLevel.{SecurityLevel}
 use Rattle.protocol.specs.declared.Bond.{Bond}
+use Rattle.protocol.specs.declared.Check.{Check}
+use Rattle.protocol.specs.declared.Commitment.{Commitment}
 use Rattle.protocol.specs.declared.Question.{Question}
-use Rattle.protocol.specs.declared.QuestionKind.{QuestionKind}
-use Rattle.protocol.specs.declared.QuestionKind.TheVariants as Q
+use Rattle.protocol.specs.declared.Question.TheVariants as Q
 use Rattle.protocol.specs.declared.Secrets.{Secrets}
 use Rattle.protocol.specs.declared.Setup.{Setup}
 use Rattle.protocol.specs.declared.Supplied.{Supplied}
@@ -119,25 +120,21 @@ peer_random = from 0x21 16
 
 -- By position
 
--- a question; and each kind of it by its arguments, as Part H 2.2.6 to 2.2.9 has them: what it does not take is zero
-abbrev pub question : QuestionKind → List ℕ → List ℕ → List ℕ → List ℕ → List ℕ → List ℕ → ℕ → List ℕ → Address → Address → Question
-question kind u v key n1 n2 r z iocap a1 a2 =
-    record { kind = kind; u = u; v = v; key = key; n1 = n1; n2 = n2; r = r; z = z; iocap = iocap; a1 = a1; a2 = a2 }
-
+-- each kind of question by its arguments, as Part H 2.2.6 to 2.2.9 has them
 abbrev pub dh : List ℕ → List ℕ → Question
-dh x y = question Q.DH x y none none none none 0 (zeros 3) nobody nobody
+dh x y = Q.DH x y
 
-abbrev pub f4 : QuestionKind → List ℕ → List ℕ → List ℕ → ℕ → Question
-f4 kind u v x z = question kind u v none x none none z (zeros 3) nobody nobody
+abbrev pub f4 : (Commitment → Question) → List ℕ → List ℕ → List ℕ → ℕ → Question
+f4 whose u v x z = whose (record { u = u; v = v; x = x; z = z })
 
 abbrev pub f5 : List ℕ → List ℕ → List ℕ → Address → Address → Question
-f5 w n1 n2 a1 a2 = question Q.F5 w (zeros 32) none n1 n2 none 0 (zeros 3) a1 a2
+f5 w n1 n2 a1 a2 = Q.F5 w n1 n2 a1 a2
 
-abbrev pub f6 : QuestionKind → List ℕ → List ℕ → List ℕ → List ℕ → List ℕ → Address → Address → Question
-f6 kind w n1 n2 r iocap a1 a2 = question kind (zeros 32) (zeros 32) w n1 n2 r 0 iocap a1 a2
+abbrev pub f6 : (Check → Question) → List ℕ → List ℕ → List ℕ → List ℕ → List ℕ → Address → Address → Question
+f6 whose w n1 n2 r iocap a1 a2 = whose (record { w = w; n1 = n1; n2 = n2; r = r; iocap = iocap; a1 = a1; a2 = a2 })
 
 abbrev pub g2 : List ℕ → List ℕ → List ℕ → List ℕ → Question
-g2 u v x y = question Q.G2 u v none x y none 0 (zeros 3) nobody nobody
+g2 u v x y = Q.G2 u v x y
 
 -- what was exchanged: the peer's x, the DHKey, the peer's confirm, the nonces (the peer's, ours), the secrets (the peer's, ours), the passkey, what is held
 abbrev pub secrets : List ℕ → List ℕ → List ℕ → List ℕ → List ℕ → List ℕ → List ℕ → ℕ → List ℕ → Secrets

@@ -133,38 +133,68 @@ pub struct Supplied {
     pub owncheck: [u8; 16],
 }
 
-// A question to the cryptography outside, each with its arguments in Part H's order.
+// A question to the cryptography outside, with its arguments in Part H's order.
 #[derive(Clone, Copy)]
-pub enum QuestionKind {
-    Nothing,
-    // the DHKey of the peer's public key: x in u, y in v
-    DH,
-    // f4(u, v, n1, z), for our confirm and for the peer's
-    OwnConfirm,
-    PeerConfirm,
-    // g2(u, v, n1, n2)
-    G2,
-    // f5(u, n1, n2, a1, a2)
-    F5,
-    // f6(key, n1, n2, r, iocap, a1, a2), for the peer's check and for ours
-    PeerCheck,
-    OwnCheck,
+pub enum Question {
+    // the DHKey of the peer's public key
+    DH {
+        x: [u8; 32],
+        y: [u8; 32],
+    },
+    // f4, for our confirm and for the peer's
+    OwnConfirm(Commitment),
+    PeerConfirm(Commitment),
+    // g2(U, V, X, Y)
+    G2 {
+        u: [u8; 32],
+        v: [u8; 32],
+        x: [u8; 16],
+        y: [u8; 16],
+    },
+    // f5(W, N1, N2, A1, A2)
+    F5 {
+        w: [u8; 32],
+        n1: [u8; 16],
+        n2: [u8; 16],
+        a1: Address,
+        a2: Address,
+    },
+    // f6, for the peer's check and for ours
+    PeerCheck(Check),
+    OwnCheck(Check),
 }
 
-// What a kind of question doesn't take is zero.
+// f4(U, V, X, Z): what a confirm is computed from.
 #[derive(Clone, Copy)]
-pub struct Question {
-    pub kind: QuestionKind,
+pub struct Commitment {
     pub u: [u8; 32],
     pub v: [u8; 32],
-    pub key: [u8; 16],
+    pub x: [u8; 16],
+    pub z: u8,
+}
+
+// f6(W, N1, N2, R, IOcap, A1, A2): what a DHKey check is computed from.
+#[derive(Clone, Copy)]
+pub struct Check {
+    pub w: [u8; 16],
     pub n1: [u8; 16],
     pub n2: [u8; 16],
     pub r: [u8; 16],
-    pub z: u8,
     pub iocap: [u8; 3],
     pub a1: Address,
     pub a2: Address,
+}
+
+// A question without its arguments: there is one answer for each.
+#[derive(Clone, Copy, Debug, PartialEq, Eq)]
+pub enum QuestionKind {
+    DH,
+    OwnConfirm,
+    PeerConfirm,
+    G2,
+    F5,
+    PeerCheck,
+    OwnCheck,
 }
 
 // Which answers have been given so far, by the question.
