@@ -14,11 +14,12 @@ use Rattle.features.specs.Features.{io_cap_of}
 use Rattle.features.proofs.Features.{encode_decode}
 use Rattle.frames.specs.Packets.{request_code, public_key_code, check_code, pairing_response, frame, framed, channel}
 use Rattle.protocol.specs.declared.Answer.TheVariants as A
+use Rattle.protocol.specs.declared.Check.{Check}
 use Rattle.protocol.specs.declared.Failure.{Failure}
 use Rattle.protocol.specs.declared.Given.{Given}
 use Rattle.protocol.specs.declared.Question.{Question}
+use Rattle.protocol.specs.declared.Question.TheVariants as Q
 use Rattle.protocol.specs.declared.QuestionKind.{QuestionKind}
-use Rattle.protocol.specs.declared.QuestionKind.TheVariants as Q
 use Rattle.protocol.specs.declared.Supplied.{Supplied}
 use Rattle.protocol.specs.Plan.{runs, asked}
 use Rattle.protocol.specs.Draws.{Draw, drawn}
@@ -81,16 +82,16 @@ module _ (m : State) (a : Supplied) (body : List ℕ) where
 -- The IO triples of f6
 
 module _ (m : State) (i : Input) (a : Supplied) (q : Question) (asks : Memᴰ q (questions responder m i a)) where
-  triple : Triple m q.kind q.iocap
+  triple : Triple m q
   unfolding questions
-  triple = among (λ x. Triple m x.kind x.iocap) (questions responder m i a) (end m (bring i a enough)).triples q asks
+  triple = among (Triple m) (questions responder m i a) (end m (bring i a enough)).triples q asks
 
   -- whatever the call, the peer's is that of its features, and ours that of the features that we answered them with
-  pub triple_as_received : q.kind ≡ Q.PeerCheck → q.iocap ≡ io_cap_of m.features
-  triple_as_received k = rw k at triple
+  pub triple_as_received : (c : Check) → q ≡ Q.PeerCheck c → c.iocap ≡ io_cap_of m.features
+  triple_as_received c k = rw k at triple
 
-  pub triple_as_sent : q.kind ≡ Q.OwnCheck → q.iocap ≡ io_cap_of (own_features m.setup m.features)
-  triple_as_sent k = rw k at triple
+  pub triple_as_sent : (c : Check) → q ≡ Q.OwnCheck c → c.iocap ≡ io_cap_of (own_features m.setup m.features)
+  triple_as_sent c k = rw k at triple
 
 -- those features are a request's, and these went in the response to it
 pub request_kept : (m : State) (a : Supplied) (n : ℕ) (body : List ℕ) (f : PairingFeatures) → m.phase ≡ P.WaitingPairingRequest → enough ≤ n → accept_of body ≡ Ok f

@@ -29,8 +29,7 @@ use Rattle.protocol.specs.declared.Event.TheVariants as I
 use Rattle.protocol.specs.declared.Failure.{Failure}
 use Rattle.protocol.specs.declared.OobData.{OobData}
 use Rattle.protocol.specs.declared.Question.{Question}
-use Rattle.protocol.specs.declared.QuestionKind.{QuestionKind}
-use Rattle.protocol.specs.declared.QuestionKind.TheVariants as Q
+use Rattle.protocol.specs.declared.Question.TheVariants as Q
 use Rattle.protocol.specs.declared.Refusal.{Refusal}
 use Rattle.protocol.specs.declared.Secrets.{Secrets}
 use Rattle.protocol.specs.declared.Supplied.{Supplied}
@@ -72,15 +71,14 @@ pub data Sends (m : State) (a : Supplied) : List Packet → Type 0 where
   identity : Sends m a (own_identity m)
 
 -- the IO triples of f6
-abbrev pub Triple : State → QuestionKind → List ℕ → Type 0
-Triple m Q.Nothing t = Unit {0}
-Triple m Q.DH t = Unit {0}
-Triple m Q.OwnConfirm t = Unit {0}
-Triple m Q.PeerConfirm t = Unit {0}
-Triple m Q.G2 t = Unit {0}
-Triple m Q.F5 t = Unit {0}
-Triple m Q.PeerCheck t = t ≡ io_cap_of m.features
-Triple m Q.OwnCheck t = t ≡ io_cap_of (own_features m.setup m.features)
+abbrev pub Triple : State → Question → Type 0
+Triple m (Q.DH x y) = Unit {0}
+Triple m (Q.OwnConfirm c) = Unit {0}
+Triple m (Q.PeerConfirm c) = Unit {0}
+Triple m (Q.G2 u v x y) = Unit {0}
+Triple m (Q.F5 w n1 n2 a1 a2) = Unit {0}
+Triple m (Q.PeerCheck c) = c.iocap ≡ io_cap_of m.features
+Triple m (Q.OwnCheck c) = c.iocap ≡ io_cap_of (own_features m.setup m.features)
 
 -- refused as the scope says, failed as it says, or taken
 abbrev pub Answered : State → Call → List Question → Outcome State → Answer → Type 0
@@ -90,7 +88,7 @@ Answered m c qs o A.Taken = Onward o.next o.second o.action
 
 -- what is shown of every call: of all that it asked (qs) and drew (ds), and of what is said of its end
 pub record End (m : State) (c : Call) (qs : List Question) (ds : List Draw) (e : Ending State) : Type 0 where
-  pub triples : All (λ q. Triple m q.kind q.iocap) qs
+  pub triples : All (Triple m) qs
   pub drew : All (Reads m c.supplied c.input) ds
   pub once : leb (length ds) 1 ≡ true
   pub setup : (said responder m e).next.setup ≡ m.setup
@@ -116,12 +114,12 @@ module _ (m : State) (u : finished_phase m.phase ≡ false) (a : Supplied) (n : 
 
   module _ {i : Input} {qs : List Question} where
     -- a failure, by what was asked before it
-    dies : {f : Failure} {v : Option ConnectionEvent} → Before m (bring i a n) v → All (λ q. Triple m q.kind q.iocap) qs → Asked f (kinds qs) → End m (bring i a n) qs [] (fails v f)
+    dies : {f : Failure} {v : Option ConnectionEvent} → Before m (bring i a n) v → All (Triple m) qs → Asked f (kinds qs) → End m (bring i a n) qs [] (fails v f)
     dies v t h = record { triples = t; drew = tt; once = refl; setup = refl; features = inl refl; packets = Sends.nothing; first = v; answer = (room, h) }
 
     -- a move, by what was asked and drawn before it
     moving : {ds : List Draw} {p : Phase} {w : PairingMethod} {s : Secrets} {b : Option Bond} {r : Address} {ps : List Packet} {e : Option ConnectionEvent} {x : Option Action}
-        → All (λ q. Triple m q.kind q.iocap) qs → All (Reads m a i) ds → leb (length ds) 1 ≡ true → Sends m a ps
+        → All (Triple m) qs → All (Reads m a i) ds → leb (length ds) 1 ≡ true → Sends m a ps
         → Onward (record { phase = p; setup = m.setup; features = m.features; method = w; secrets = s; bond = b; peer = r }) e x
         → End m (bring i a n) qs ds (moves (record { phase = p; setup = m.setup; features = m.features; method = w; secrets = s; bond = b; peer = r }) ps None e x)
     moving t d o p h = record { triples = t; drew = d; once = o; setup = refl; features = inl refl; packets = p; first = inl refl; answer = h }

@@ -31,7 +31,7 @@ use Rattle.machine.specs.Numeric.{disclosing}
 use Rattle.machine.specs.Responder.{responder}
 use Rattle.machine.specs.Run.{begun, taken, in_round}
 use Rattle.machine.specs.Passed.{Value, Request, Key, Shows, configured, drawn, Typed, Matching, Rounds, none, round, Passed, shown, typed, late, number, is_passkey, Reached}
-use Rattle.machine.specs.Tested.{tested, up_from}
+use Rattle.machine.specs.Tested.{asked_z, tested, up_from}
 use Rattle.machine.specs.Demand.{Exactly, Enters, First, TwentyBits}
 use Rattle.machine.proofs.Awaited.{Awaited, clash, request, bonded_link, key, compared, early_check, yes, yes_held, early_confirm, passkey, passkey_held, confirm, random, oob_data, oob_random, check, link, information, address, on, visit, any_round, any_key, any_random}
 use Rattle.machine.proofs.Bound.{rank, left, bound}
@@ -88,7 +88,7 @@ module _ (cs : List Call)
       let s : State = (said responder m e).next in
       let b : Bool = is_taken (said responder m e).answer in
       Reached (run responder s cs) → Leads m m.phase (keep b c (history responder s cs))
-      (cond b (in_round m.phase (λ r. map (λ q. q.z) (questions responder m c.input c.supplied)) []) [] ++ tested s cs) (run responder s cs).secrets.passkey
+      (cond b (in_round m.phase (λ r. map asked_z (questions responder m c.input c.supplied)) []) [] ++ tested s cs) (run responder s cs).secrets.passkey
 
   -- by another method, no
   other : {A : Type 0} (m : State) (x : PairingMethod) → m.method ≡ x → is_passkey x ≡ false → is_passkey m.method ≡ true → A
@@ -97,7 +97,7 @@ module _ (cs : List Call)
   -- a random in round r, where n rounds were left after it
   by_random : (m : State) (r : ℕ) (w : List ℕ) → Matching m.secrets.confirm w c → (n : ℕ) → 19 - r ≡ n → {h : List Call} {zs : List ℕ} → Rounds n h
       → zs ≡ map (z_of m.secrets.passkey) (up_from n (r + 1)) → ((v : List ℕ) (d : Call) → Value confirm_code v d → flip v ≡ m.secrets.confirm → Rounds (suc (19 - r)) (d ∷ c ∷ h))
-      × (map (λ q. q.z) (questions responder (at m (P.WaitingPassKeyEntryRandom r)) c.input c.supplied) ++ zs ≡ bits m.secrets.passkey r)
+      × (map asked_z (questions responder (at m (P.WaitingPassKeyEntryRandom r)) c.input c.supplied) ++ zs ≡ bits m.secrets.passkey r)
   unfolding up_from
   by_random m r w k n e ρ t =
       (λ v d g h. rw e (round g (record { random = k.random; equal = h ∙ k.equal }) ρ), rw (round_asks m r c w k, e) (ap (λ zs. z_of m.secrets.passkey r ∷ zs) t))

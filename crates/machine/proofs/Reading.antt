@@ -11,9 +11,9 @@ use Rattle.frames.specs.Packets.{public_key_code, confirm_code, random_code}
 use Rattle.protocol.specs.declared.Given.{Given}
 use Rattle.protocol.specs.declared.Question.{Question}
 use Rattle.protocol.specs.declared.QuestionKind.{QuestionKind}
-use Rattle.protocol.specs.declared.QuestionKind.TheVariants as Q
+use Rattle.protocol.specs.declared.QuestionKind.TheVariants as K
 use Rattle.protocol.specs.declared.Supplied.{Supplied}
-use Rattle.protocol.specs.Plan.{reply}
+use Rattle.protocol.specs.Plan.{kind_of, reply}
 use Rattle.protocol.specs.Draws.{Draw, nonce, passkey, drawn, draws, drawings, Alike}
 use Rattle.protocol.specs.Next.{known}
 use Rattle.protocol.specs.Role.{Input, enough, questions}
@@ -49,27 +49,25 @@ module _ (m : State) (a : Supplied) where
   passkey_iff i = draws_iff i passkey
 
 told : (a b : Supplied) (k : QuestionKind) → Told k a b → reply a k ≡ reply b k
-told a b Q.Nothing h = refl
-told a b Q.DH h = rw (h.0, h.1)
-told a b Q.OwnConfirm h = h
-told a b Q.PeerConfirm h = h
-told a b Q.G2 h = h
-told a b Q.F5 h = rw (h.0, h.1)
-told a b Q.PeerCheck h = h
-told a b Q.OwnCheck h = h
+told a b K.DH h = rw (h.0, h.1)
+told a b K.OwnConfirm h = h
+told a b K.PeerConfirm h = h
+told a b K.G2 h = h
+told a b K.F5 h = rw (h.0, h.1)
+told a b K.PeerCheck h = h
+told a b K.OwnCheck h = h
 
 -- an answer to a question that it does not ask, and a drawn value that the scope does not name, play no part in a call
-pub reads_only : (m : State) (i : Input) (a b : Supplied) → ((q : Question) → Memᴰ q (questions responder m i a) → Told q.kind a b)
+pub reads_only : (m : State) (i : Input) (a b : Supplied) → ((q : Question) → Memᴰ q (questions responder m i a) → Told (kind_of q) a b)
     → ((d : Draw) → Reads m a i d → drawn a d ≡ drawn b d) → Alike responder m i a b
-reads_only m i a b h k = call_reads_asked responder m i a b (λ q x. told a b q.kind (h q x)) (λ d x. k d ((draws_iff m a i d).0 x))
+reads_only m i a b h k = call_reads_asked responder m i a b (λ q x. told a b (kind_of q) (h q x)) (λ d x. k d ((draws_iff m a i d).0 x))
 
 -- what has been given so far is known, kind by kind
 pub sofar : (g : Given) (a b : Supplied) → Sofar g a b → (k : QuestionKind) → known g k ≡ true → reply a k ≡ reply b k
-sofar g a b h Q.Nothing e = refl
-sofar g a b h Q.DH e = told a b Q.DH (h.dh e)
-sofar g a b h Q.OwnConfirm e = h.ownconfirm e
-sofar g a b h Q.PeerConfirm e = h.peerconfirm e
-sofar g a b h Q.G2 e = h.g2 e
-sofar g a b h Q.F5 e = told a b Q.F5 (h.f5 e)
-sofar g a b h Q.PeerCheck e = h.peercheck e
-sofar g a b h Q.OwnCheck e = h.owncheck e
+sofar g a b h K.DH e = told a b K.DH (h.dh e)
+sofar g a b h K.OwnConfirm e = h.ownconfirm e
+sofar g a b h K.PeerConfirm e = h.peerconfirm e
+sofar g a b h K.G2 e = h.g2 e
+sofar g a b h K.F5 e = told a b K.F5 (h.f5 e)
+sofar g a b h K.PeerCheck e = h.peercheck e
+sofar g a b h K.OwnCheck e = h.owncheck e

@@ -8,7 +8,7 @@ use Rattle.protocol.specs.declared.Action.TheVariants as X
 use Rattle.protocol.specs.declared.Bond.{Bond}
 use Rattle.protocol.specs.declared.Failure.TheVariants as F
 use Rattle.protocol.specs.declared.Question.{Question}
-use Rattle.protocol.specs.declared.QuestionKind.TheVariants as Q
+use Rattle.protocol.specs.declared.Question.TheVariants as Q
 use Rattle.protocol.specs.Plan.{Plan, Ending, ends, asks, moves, needs}
 use Rattle.protocol.specs.Parts.{check, ask_f5, ask_f6}
 use Rattle.machine.specs.declared.Phase.TheVariants as P

@@ -9,7 +9,8 @@ use Rattle.protocol.specs.declared.Failure.{Failure}
 use Rattle.protocol.specs.declared.Failure.TheVariants as F
 use Rattle.protocol.specs.declared.Question.{Question}
 use Rattle.protocol.specs.declared.QuestionKind.{QuestionKind}
-use Rattle.protocol.specs.declared.QuestionKind.TheVariants as Q
+use Rattle.protocol.specs.declared.QuestionKind.TheVariants as K
+use Rattle.protocol.specs.Plan.{kind_of}
 use Rattle.protocol.specs.Role.{Input, command, Call, enough}
 use Rattle.machine.specs.declared.Phase.TheVariants as P
 use Rattle.machine.specs.declared.State.{State}
@@ -42,13 +43,13 @@ by_answer F.KeyRejected = false
 -- (A check of a wrong size has asked what a wrong check asks)
 pub data Asked : Failure → List QuestionKind → Type 0 where
   nothing : {f : Failure} → by_answer f ≡ false → Asked f []
-  key : Asked F.DHKeyCheckFailed (Q.DH ∷ [])
-  confirm : Asked F.ConfirmValueFailed (Q.PeerConfirm ∷ [])
-  check : Asked F.DHKeyCheckFailed (Q.F5 ∷ Q.PeerCheck ∷ [])
+  key : Asked F.DHKeyCheckFailed (K.DH ∷ [])
+  confirm : Asked F.ConfirmValueFailed (K.PeerConfirm ∷ [])
+  check : Asked F.DHKeyCheckFailed (K.F5 ∷ K.PeerCheck ∷ [])
 
 -- the kinds of the questions, in order
 abbrev pub kinds : List Question → List QuestionKind
-kinds qs = map (λ q. q.kind) qs
+kinds qs = map kind_of qs
 
 -- A call that goes on
 

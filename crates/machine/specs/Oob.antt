@@ -7,7 +7,7 @@ use Rattle.protocol.specs.declared.Event.{Event}
 use Rattle.protocol.specs.declared.Event.TheVariants as I
 use Rattle.protocol.specs.declared.Failure.TheVariants as F
 use Rattle.protocol.specs.declared.OobData.{OobData}
-use Rattle.protocol.specs.declared.QuestionKind.TheVariants as Q
+use Rattle.protocol.specs.declared.Question.TheVariants as Q
 use Rattle.protocol.specs.Plan.{Plan, Ending, ends, asks, draws_nonce, tests, goes, needs, unlisted}
 use Rattle.protocol.specs.Parts.{value, ask_f4}
 use Rattle.protocol.specs.Exchanged.{set_secrets, set_nonces}

@@ -7,7 +7,7 @@ use Rattle.protocol.specs.declared.Event.TheVariants as I
 use Rattle.protocol.specs.declared.Supplied.{Supplied}
 use Rattle.protocol.specs.declared.Given.{Given}
 use Rattle.protocol.specs.declared.QuestionKind.{QuestionKind}
-use Rattle.protocol.specs.declared.QuestionKind.TheVariants as Q
+use Rattle.protocol.specs.declared.QuestionKind.TheVariants as K
 use Rattle.protocol.specs.Draws.{Draw, nonce, passkey}
 use Rattle.protocol.specs.Parts.{is_key, is_value}
 use Rattle.protocol.specs.Role.{Input, command, event}
@@ -30,21 +30,20 @@ Reads m a i passkey = ReadsPasskey m a i
 
 -- a and b have the same answer to a kind of question, slot by slot
 abbrev pub Told : QuestionKind → Supplied → Supplied → Type 0
-Told Q.Nothing a b = Unit {0}
-Told Q.DH a b = (a.dhvalid ≡ b.dhvalid) × (a.dhkey ≡ b.dhkey)
-Told Q.OwnConfirm a b = a.ownconfirm ≡ b.ownconfirm
-Told Q.PeerConfirm a b = a.peerconfirm ≡ b.peerconfirm
-Told Q.G2 a b = a.g2 ≡ b.g2
-Told Q.F5 a b = (a.mackey ≡ b.mackey) × (a.ltk ≡ b.ltk)
-Told Q.PeerCheck a b = a.peercheck ≡ b.peercheck
-Told Q.OwnCheck a b = a.owncheck ≡ b.owncheck
+Told K.DH a b = (a.dhvalid ≡ b.dhvalid) × (a.dhkey ≡ b.dhkey)
+Told K.OwnConfirm a b = a.ownconfirm ≡ b.ownconfirm
+Told K.PeerConfirm a b = a.peerconfirm ≡ b.peerconfirm
+Told K.G2 a b = a.g2 ≡ b.g2
+Told K.F5 a b = (a.mackey ≡ b.mackey) × (a.ltk ≡ b.ltk)
+Told K.PeerCheck a b = a.peercheck ≡ b.peercheck
+Told K.OwnCheck a b = a.owncheck ≡ b.owncheck
 
 -- and to all that have been given so far
 pub record Sofar (g : Given) (a b : Supplied) : Type 0 where
-  pub dh : g.dh ≡ true → Told Q.DH a b
-  pub ownconfirm : g.ownconfirm ≡ true → Told Q.OwnConfirm a b
-  pub peerconfirm : g.peerconfirm ≡ true → Told Q.PeerConfirm a b
-  pub g2 : g.g2 ≡ true → Told Q.G2 a b
-  pub f5 : g.f5 ≡ true → Told Q.F5 a b
-  pub peercheck : g.peercheck ≡ true → Told Q.PeerCheck a b
-  pub owncheck : g.owncheck ≡ true → Told Q.OwnCheck a b
+  pub dh : g.dh ≡ true → Told K.DH a b
+  pub ownconfirm : g.ownconfirm ≡ true → Told K.OwnConfirm a b
+  pub peerconfirm : g.peerconfirm ≡ true → Told K.PeerConfirm a b
+  pub g2 : g.g2 ≡ true → Told K.G2 a b
+  pub f5 : g.f5 ≡ true → Told K.F5 a b
+  pub peercheck : g.peercheck ≡ true → Told K.PeerCheck a b
+  pub owncheck : g.owncheck ≡ true → Told K.OwnCheck a b
