@@ -1,5 +1,0 @@
--- `asking::dh` meets its contract. Assumes nothing.
-use Rattle.asking.proofs.dh.Goals as goal
-
-pub returns : goal.returns
-returns c = rw c.none-question.ensures at c.of_kind.ensures

@@ -1,5 +1,0 @@
--- `asking::f5` meets its contract. Assumes nothing.
-use Rattle.asking.proofs.f5.Goals as goal
-
-pub returns : goal.returns
-returns c = rw c.none-question.ensures at c.of_kind.ensures

@@ -1,5 +1,0 @@
--- `asking::g2` meets its contract. Assumes nothing.
-use Rattle.asking.proofs.g2.Goals as goal
-
-pub returns : goal.returns
-returns c = rw c.none-question.ensures at c.of_kind.ensures

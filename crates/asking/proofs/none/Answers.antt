@@ -1,8 +1,0 @@
--- `asking::none` meets its contract. Assumes nothing.
-use mathlib.Core.Path.{refl}
-use Rattle.octets.specs.Octets.{zeros}
-use Rattle.asking.proofs.none.Goals as goal
-
-pub returns : goal.returns
-unfolding zeros
-returns c = refl

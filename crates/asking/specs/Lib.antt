@@ -1,2 +1,0 @@
--- The definitions of `asking`, file by file.
-pub mod Kinded
