@@ -2,9 +2,11 @@
 // What it must write comes from the Rust crate's own choosers (oracle/combinations).
 #![tactic(auto)]
 
-use features::{IoCapabilities, PairingFeatures, UseOutOfBand};
-use method::{PairingMethod, PassKeyEntryAction, SecurityLevel};
-use std::io;
+ghost use Rattle.std.specs.Prelude.{◌<◌};
+
+use features::{PairingFeatures, UseOutOfBand};
+use method::{PairingMethod, PassKeyEntryAction};
+use std::{fmt, io};
 
 fn main(rt: HostRuntime) -> io::Result<()> {
     for n in 0..400u32 {
@@ -17,28 +19,21 @@ fn main(rt: HostRuntime) -> io::Result<()> {
 fn combination(rt: &impl Print, n: u32) -> io::Result<()> {
     let central = side(n / 80, n / 8 % 2, n / 2 % 2);
     let peripheral = side(n / 16 % 5, n / 4 % 2, n % 2);
-    rt.write_all(b"central ")?;
-    write_side(rt, central)?;
-    rt.write_all(b" peripheral ")?;
-    write_side(rt, peripheral)?;
-    rt.write_all(b" lesc ")?;
-    write_method(rt, method::choose_pairing_method(central, peripheral))?;
-    rt.write_all(b" legacy ")?;
-    write_method(
-        rt,
-        method::choose_legacy_pairing_method(central, peripheral),
-    )?;
-    rt.write_all(b"\n")
+    let lesc = method::choose_pairing_method(central, peripheral);
+    let legacy = method::choose_legacy_pairing_method(central, peripheral);
+    println!(rt;
+        "central {} peripheral {} lesc {} legacy {}",
+        Side(central),
+        Side(peripheral),
+        Chosen(lesc),
+        Chosen(legacy)
+    )
 }
 
 fn side(io: u32, oob: u32, mitm: u32) -> PairingFeatures {
     PairingFeatures {
-        io: capability(io),
-        oob: if oob == 0 {
-            UseOutOfBand::NotPresent
-        } else {
-            UseOutOfBand::Present
-        },
+        io: features::io_of((io % 5) as u8),
+        oob: features::oob_of((oob % 2) as u8),
         authreq: features::auth_req(false, mitm == 1),
         keysize: 16,
         initiator: 0,
@@ -46,68 +41,39 @@ fn side(io: u32, oob: u32, mitm: u32) -> PairingFeatures {
     }
 }
 
-fn capability(io: u32) -> IoCapabilities {
-    match io {
-        0 => IoCapabilities::DisplayOnly,
-        1 => IoCapabilities::DisplayYesNo,
-        2 => IoCapabilities::KeyboardOnly,
-        3 => IoCapabilities::NoInputNoOutput,
-        _ => IoCapabilities::KeyboardDisplay,
+#[derive(Clone, Copy)]
+struct Side(PairingFeatures);
+
+impl fmt::Display for Side {
+    fn fmt<W: fmt::Write>(&self, f: &mut fmt::Formatter<W>) -> fmt::Result {
+        let oob = u8::from(self.0.oob == UseOutOfBand::Present);
+        let mitm = u8::from(self.0.man_in_the_middle());
+        write!(f, "{:?} oob {oob} mitm {mitm}", self.0.io)
     }
 }
 
-fn write_side(rt: &impl Print, side: PairingFeatures) -> io::Result<()> {
-    let io = side.io;
-    match io {
-        IoCapabilities::DisplayOnly => rt.write_all(b"DisplayOnly")?,
-        IoCapabilities::DisplayYesNo => rt.write_all(b"DisplayYesNo")?,
-        IoCapabilities::KeyboardOnly => rt.write_all(b"KeyboardOnly")?,
-        IoCapabilities::NoInputNoOutput => rt.write_all(b"NoInputNoOutput")?,
-        IoCapabilities::KeyboardDisplay => rt.write_all(b"KeyboardDisplay")?,
-    }
-    let oob = side.oob;
-    match oob {
-        UseOutOfBand::NotPresent => rt.write_all(b" oob 0 mitm ")?,
-        UseOutOfBand::Present => rt.write_all(b" oob 1 mitm ")?,
-    }
-    if side.man_in_the_middle() {
-        rt.write_all(b"1")
-    } else {
-        rt.write_all(b"0")
+// A method and the level that it gives.
+#[derive(Clone, Copy)]
+struct Chosen(PairingMethod);
+
+impl fmt::Display for Chosen {
+    fn fmt<W: fmt::Write>(&self, f: &mut fmt::Formatter<W>) -> fmt::Result {
+        let level = self.0.security_level();
+        match self.0 {
+            PairingMethod::PassKeyEntry {
+                central,
+                peripheral,
+            } => write!(f, "{} {level:?}", roles(central, peripheral)),
+            method => write!(f, "{method:?} {level:?}"),
+        }
     }
 }
 
-fn write_method(rt: &impl Print, method: PairingMethod) -> io::Result<()> {
-    match method {
-        PairingMethod::JustWorks => rt.write_all(b"JustWorks ")?,
-        PairingMethod::NumericComparison => rt.write_all(b"NumericComparison ")?,
-        PairingMethod::PassKeyEntry {
-            central,
-            peripheral,
-        } => write_roles(rt, central, peripheral)?,
-        PairingMethod::OutOfBand => rt.write_all(b"OutOfBand ")?,
-    }
-    let level = method.security_level();
-    match level {
-        SecurityLevel::NoEncryption => rt.write_all(b"NoEncryption"),
-        SecurityLevel::Encrypted => rt.write_all(b"Encrypted"),
-        SecurityLevel::EncryptedAuthenticated => rt.write_all(b"EncryptedAuthenticated"),
-    }
-}
-
-fn write_roles(
-    rt: &impl Print,
-    central: PassKeyEntryAction,
-    peripheral: PassKeyEntryAction,
-) -> io::Result<()> {
-    match central {
-        PassKeyEntryAction::Display => match peripheral {
-            PassKeyEntryAction::Display => rt.write_all(b"BothDisplay "),
-            PassKeyEntryAction::Input => rt.write_all(b"CentralDisplays "),
-        },
-        PassKeyEntryAction::Input => match peripheral {
-            PassKeyEntryAction::Display => rt.write_all(b"PeripheralDisplays "),
-            PassKeyEntryAction::Input => rt.write_all(b"BothInput "),
-        },
+fn roles(central: PassKeyEntryAction, peripheral: PassKeyEntryAction) -> &'static str {
+    match (central, peripheral) {
+        (PassKeyEntryAction::Display, PassKeyEntryAction::Display) => "BothDisplay",
+        (PassKeyEntryAction::Display, PassKeyEntryAction::Input) => "CentralDisplays",
+        (PassKeyEntryAction::Input, PassKeyEntryAction::Display) => "PeripheralDisplays",
+        (PassKeyEntryAction::Input, PassKeyEntryAction::Input) => "BothInput",
     }
 }

@@ -32,7 +32,7 @@ use method::SecurityLevel;
 use protocol::{Bond, Setup};
 
 // How the pairing starts: plain, or with a Security Request by the user's wish or not.
-#[derive(Clone, Copy)]
+#[derive(Clone, Copy, Debug, PartialEq, Eq)]
 pub enum StartKind {
     Plain,
     ByUser,

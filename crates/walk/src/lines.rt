@@ -1,13 +1,14 @@
-// Whole lines, one for each kind of record, and the line that says where the walk stops.
-use crate::parts;
-use crate::standing::{View, seen, standing};
-use crate::text::{Line, empty, least};
-use protocol::Question;
-use responder::Stepped;
+// Whole lines behind their number, one for each kind of record, and why the walk stops.
+use crate::parts::{Asked, Deed, Events, Frames, Said};
+use crate::standing::{View, seen};
+use crate::text::OrDash;
+use protocol::{Action, Answer, ConnectionEvent, Question};
+use responder::{Responder, Stepped};
+use std::fmt;
 use wrapper::{Begun, Start};
 
 // Why the walk stops.
-#[derive(Clone, Copy)]
+#[derive(Clone, Copy, Debug, PartialEq, Eq)]
 pub(crate) enum Fault {
     Incomplete,
     UnknownKind,
@@ -15,91 +16,97 @@ pub(crate) enum Fault {
     Misfit,
 }
 
-pub(crate) fn setup(number: u64, begun: Begun, outbox: [u8; 512]) -> Line {
-    let answer = begun.answer;
-    let responder = begun.responder;
-    let answered = start(head(number, b" setup answer="), answer);
-    let sent = frames(answered, outbox, begun.sent).word(b" events=- action=-");
-    standing(sent, seen(responder)).word(b" question=-\n")
-}
-
-pub(crate) fn command(number: u64, stepped: Stepped, outbox: [u8; 512], asked: Question) -> Line {
-    call(head(number, b" command answer="), stepped, outbox, asked)
-}
-
-pub(crate) fn event(number: u64, stepped: Stepped, outbox: [u8; 512], asked: Question) -> Line {
-    call(head(number, b" event answer="), stepped, outbox, asked)
-}
-
-pub(crate) fn timeout(number: u64, view: View) -> Line {
-    quiet(head(number, b" timeout answer=-"), view)
-}
-
-// An answer that was seen, and whether it is the one that was given.
-pub(crate) fn answer(number: u64, same: bool, view: View) -> Line {
-    quiet(verdict(head(number, b" answer answer="), same), view)
-}
-
-pub(crate) fn stop(number: u64, why: Fault, offset: u64) -> Line {
-    let named = reason(head(number, b" stop "), why);
-    named.word(b" at ").decimal(offset).word(b"\n")
-}
-
-fn head(number: u64, kind: &[u8]) -> Line {
-    empty().decimal(number).word(kind)
-}
-
-// What stands behind `answer=` in the line of a command or an event.
-fn call(line: Line, stepped: Stepped, outbox: [u8; 512], asked: Question) -> Line {
-    let responder = stepped.responder;
-    let given = given_back(line, stepped, outbox);
-    let stood = standing(given, seen(responder)).word(b" question=");
-    parts::question(stood, asked).word(b"\n")
-}
-
-// Answer, frames, events and action.
-fn given_back(line: Line, stepped: Stepped, outbox: [u8; 512]) -> Line {
-    let answer = stepped.answer;
-    let first = stepped.first;
-    let second = stepped.second;
-    let action = stepped.action;
-    let answered = parts::answer(line, answer);
-    let sent = frames(answered, outbox, stepped.sent);
-    let told = parts::events(sent.word(b" events="), first, second);
-    parts::action(told.word(b" action="), action)
-}
-
-fn start(line: Line, answer: Start) -> Line {
-    match answer {
-        Start::Started => line.word(b"started"),
-        Start::Refused(refusal) => line.name(names::refusal(refusal)),
+impl fmt::Display for Fault {
+    fn fmt<W: fmt::Write>(&self, f: &mut fmt::Formatter<W>) -> fmt::Result {
+        f.write_str(match self {
+            Fault::Incomplete => "1 incomplete",
+            Fault::UnknownKind => "2 unknown-kind",
+            Fault::NoSetup => "3 no-setup",
+            Fault::Misfit => "5 misfit",
+        })
     }
 }
 
-fn verdict(line: Line, same: bool) -> Line {
-    if same {
-        return line.word(b"same");
+// What a record's line says. The frames are in the first `sent` octets of the outbox.
+#[derive(Clone, Copy)]
+pub(crate) struct Line {
+    kind: &'static str,
+    said: Said,
+    outbox: [u8; 512],
+    sent: usize,
+    events: Events,
+    action: Option<Action>,
+    view: View,
+    asked: Option<Question>,
+}
+
+impl Line {
+    pub(crate) fn setup(begun: Begun, outbox: [u8; 512]) -> Line {
+        let said = match begun.answer {
+            Start::Started => Said::Started,
+            Start::Refused(refusal) => Said::Answer(Answer::Refused(refusal)),
+        };
+        Line {
+            outbox,
+            sent: begun.sent,
+            ..Line::quiet("setup", said, begun.responder)
+        }
     }
-    line.word(b"differs")
+
+    // The line of a command or an event.
+    pub(crate) fn call(
+        kind: &'static str,
+        stepped: Stepped,
+        outbox: [u8; 512],
+        asked: Question,
+    ) -> Line {
+        Line {
+            outbox,
+            sent: stepped.sent,
+            events: Events(told(stepped.first), told(stepped.second)),
+            action: Some(stepped.action),
+            asked: Some(asked),
+            ..Line::quiet(kind, Said::Answer(stepped.answer), stepped.responder)
+        }
+    }
+
+    // A line where nothing is given back.
+    pub(crate) fn quiet(kind: &'static str, said: Said, responder: Responder) -> Line {
+        Line {
+            kind,
+            said,
+            outbox: [0; 512],
+            sent: 0,
+            events: Events(None, None),
+            action: None,
+            view: seen(responder),
+            asked: None,
+        }
+    }
 }
 
-// The frames in the first `sent` octets of the outbox.
-fn frames(line: Line, outbox: [u8; 512], sent: usize) -> Line {
-    let n = least(sent, 512);
-    parts::frames(line.word(b" frames="), &outbox[0..n])
+fn told(event: ConnectionEvent) -> Option<ConnectionEvent> {
+    match event {
+        ConnectionEvent::Nothing => None,
+        told => Some(told),
+    }
 }
 
-// The rest of a line where nothing was called.
-fn quiet(line: Line, view: View) -> Line {
-    let nothing = line.word(b" frames=- events=- action=-");
-    standing(nothing, view).word(b" question=-\n")
-}
-
-fn reason(line: Line, why: Fault) -> Line {
-    match why {
-        Fault::Incomplete => line.word(b"1 incomplete"),
-        Fault::UnknownKind => line.word(b"2 unknown-kind"),
-        Fault::NoSetup => line.word(b"3 no-setup"),
-        Fault::Misfit => line.word(b"5 misfit"),
+impl fmt::Display for Line {
+    fn fmt<W: fmt::Write>(&self, f: &mut fmt::Formatter<W>) -> fmt::Result {
+        let sent = Frames(&self.outbox[..self.sent.min(512)]);
+        write!(f, "{} answer={} frames={sent}", self.kind, self.said)?;
+        write!(
+            f,
+            " events={} action={}",
+            self.events,
+            OrDash(self.action.map(Deed))
+        )?;
+        write!(
+            f,
+            " {} question={}",
+            self.view,
+            OrDash(self.asked.map(Asked))
+        )
     }
 }

@@ -2,32 +2,58 @@
 ghost use Rattle.std.specs.Prelude.{◌≡◌};
 ghost use Rattle.walk.specs.Frames.{frame_end};
 
-use crate::text::Line;
+use crate::text::{Hex, OrDash};
 use address::Address;
 use method::SecurityLevel;
 use protocol::{Action, ActionKind, Answer, Bond, ConnectionEvent, Question, QuestionKind};
+use std::fmt;
 
-pub(crate) fn answer(line: Line, answer: Answer) -> Line {
-    match answer {
-        Answer::Taken => line.word(b"taken"),
-        Answer::Failed(failure) => line.word(b"failed").name(names::failure(failure)),
-        Answer::Refused(refusal) => line.name(names::refusal(refusal)),
+// What stands behind `answer=`.
+#[derive(Clone, Copy)]
+pub(crate) enum Said {
+    Nothing,
+    Started,
+    Answer(Answer),
+    // an answer that was seen, and whether it is the one that was given
+    Seen(bool),
+}
+
+impl fmt::Display for Said {
+    fn fmt<W: fmt::Write>(&self, f: &mut fmt::Formatter<W>) -> fmt::Result {
+        match self {
+            Said::Nothing => f.write_str("-"),
+            Said::Started => f.write_str("started"),
+            Said::Answer(Answer::Taken) => f.write_str("taken"),
+            Said::Answer(Answer::Failed(failure)) => write!(
+                f,
+                "failed{}",
+                names::failure(*failure)
+            ),
+            Said::Answer(Answer::Refused(refusal)) => f.write_str(names::refusal(*refusal)),
+            Said::Seen(same) => f.write_str(if *same { "same" } else { "differs" }),
+        }
     }
 }
 
-// The frames among the octets sent.
-pub(crate) fn frames(line: Line, sent: &[u8]) -> Line {
-    if sent.len() == 0 {
-        return line.word(b"-");
+// The frames among the octets sent, with a comma between two.
+#[derive(Clone, Copy)]
+pub(crate) struct Frames<'a>(pub(crate) &'a [u8]);
+
+impl fmt::Display for Frames<'_> {
+    fn fmt<W: fmt::Write>(&self, f: &mut fmt::Formatter<W>) -> fmt::Result {
+        let mut rest = self.0;
+        if rest.is_empty() {
+            return f.write_str("-");
+        }
+        let mut between = "";
+        while !rest.is_empty() {
+            let (frame, behind) = rest.split_at(frame_end(rest));
+            write!(f, "{between}{}", Hex(frame))?;
+            between = ",";
+            rest = behind;
+        }
+        Ok(())
     }
-    let mut written = line;
-    let mut begin = 0;
-    while begin < sent.len() {
-        let end = begin + frame_end(&sent[begin..]);
-        written = frame(written, begin, &sent[begin..end]);
-        begin = end;
-    }
-    written
 }
 
 // Where the first frame ends: its header has four octets, the first two of which count what is behind it.
@@ -38,164 +64,137 @@ fn frame_end(sent: &[u8]) -> usize
     if n < 4 {
         return n;
     }
-    let end = 4 + wide(sent[0]) + 256 * wide(sent[1]);
-    if end < n { end } else { n }
+    let behind = usize::from(sent[0]) + 256 * usize::from(sent[1]);
+    n.min(4 + behind)
 }
 
-// A frame that begins at this place, with a comma before each but the first.
-fn frame(line: Line, begin: usize, octets: &[u8]) -> Line {
-    if begin == 0 {
-        return line.hex(octets);
-    }
-    line.word(b",").hex(octets)
-}
+// The user's events in order: the first is BondLost, where there is one.
+#[derive(Clone, Copy)]
+pub(crate) struct Events(
+    pub(crate) Option<ConnectionEvent>,
+    pub(crate) Option<ConnectionEvent>,
+);
 
-fn wide(octet: u8) -> usize
-    ensures { result ≡ octet }
-{
-    octet as usize
-}
-
-// The user's events in order: the first is BondLost or nothing.
-pub(crate) fn events(line: Line, first: ConnectionEvent, second: ConnectionEvent) -> Line {
-    let one = event(line, first);
-    if one.length == line.length {
-        return only_event(line, second);
-    }
-    let comma = one.word(b",");
-    let two = event(comma, second);
-    if two.length == comma.length {
-        return one;
-    }
-    two
-}
-
-fn only_event(line: Line, told: ConnectionEvent) -> Line {
-    let written = event(line, told);
-    if written.length == line.length {
-        return line.word(b"-");
-    }
-    written
-}
-
-// Nothing is written for no event.
-fn event(line: Line, told: ConnectionEvent) -> Line {
-    let named = line.name(names::event(told));
-    match told {
-        ConnectionEvent::Nothing => named,
-        ConnectionEvent::BondLost => named,
-        ConnectionEvent::OobRequest => named,
-        ConnectionEvent::PassKeyDisplay(passkey) => named.number(passkey),
-        ConnectionEvent::PassKeyInput => named,
-        ConnectionEvent::PassKeyConfirm(shown) => named.number(shown),
-        ConnectionEvent::PairingComplete(level, reported) => complete(named, level, reported),
-        ConnectionEvent::PairingFailed(failure) => named.name(names::failure(failure)),
+impl fmt::Display for Events {
+    fn fmt<W: fmt::Write>(&self, f: &mut fmt::Formatter<W>) -> fmt::Result {
+        match (self.0, self.1) {
+            (Some(first), Some(second)) => write!(f, "{},{}", Event(first), Event(second)),
+            (first, second) => write!(f, "{}", OrDash(first.or(second).map(Event))),
+        }
     }
 }
 
-fn complete(line: Line, level: SecurityLevel, reported: bool) -> Line {
-    let named = line.word(b":").name(names::level(level));
-    if reported {
-        return named.word(b":bond");
+#[derive(Clone, Copy)]
+struct Event(ConnectionEvent);
+
+impl fmt::Display for Event {
+    fn fmt<W: fmt::Write>(&self, f: &mut fmt::Formatter<W>) -> fmt::Result {
+        f.write_str(names::event(self.0))?;
+        match self.0 {
+            ConnectionEvent::PassKeyDisplay(passkey) => write!(f, ":{passkey}"),
+            ConnectionEvent::PassKeyConfirm(shown) => write!(f, ":{shown}"),
+            ConnectionEvent::PairingComplete(level, reported) => {
+                let bond = if reported { "bond" } else { "-" };
+                write!(f, ":{}:{bond}", names::level(level))
+            }
+            ConnectionEvent::PairingFailed(failure) => f.write_str(names::failure(failure)),
+            _ => Ok(()),
+        }
     }
-    named.word(b":-")
 }
 
-pub(crate) fn action(line: Line, action: Action) -> Line {
-    let kind = action.kind;
-    let with = action.bond;
-    match kind {
-        ActionKind::Nothing => line.word(b"-"),
-        ActionKind::EnableEncryption => key(line.word(b"EnableEncryption:"), with),
-        ActionKind::StoreBond => bond(line.word(b"StoreBond:"), with),
+#[derive(Clone, Copy)]
+pub(crate) struct Deed(pub(crate) Action);
+
+impl fmt::Display for Deed {
+    fn fmt<W: fmt::Write>(&self, f: &mut fmt::Formatter<W>) -> fmt::Result {
+        match self.0.kind {
+            ActionKind::Nothing => f.write_str("-"),
+            ActionKind::EnableEncryption => write!(f, "EnableEncryption:{}", Key(self.0.bond)),
+            ActionKind::StoreBond => write!(f, "StoreBond:{}", Held(self.0.bond)),
+        }
     }
 }
 
 // A bond's link key and level.
-fn key(line: Line, bond: Bond) -> Line {
-    let ltk = bond.ltk;
-    let level = bond.level;
-    line.hex(&ltk).word(b":").name(names::level(level))
-}
+#[derive(Clone, Copy)]
+struct Key(Bond);
 
-pub(crate) fn bond(line: Line, bond: Bond) -> Line {
-    let with = bond.address;
-    let irk = bond.irk;
-    let keyed = key(line, bond).word(b":");
-    address(keyed, with).value(&irk)
-}
-
-pub(crate) fn address(line: Line, address: Address) -> Line {
-    let kind = address.kind;
-    let octets = address.octets;
-    line.hex(&[u8::from(kind)]).hex(&octets)
-}
-
-// A question with its arguments.
-pub(crate) fn question(line: Line, asked: Question) -> Line {
-    let kind = asked.kind;
-    let named = line.name(names::question(kind));
-    match kind {
-        QuestionKind::Nothing => named,
-        QuestionKind::DH => coordinates(named, asked),
-        QuestionKind::OwnConfirm => commitment(named, asked),
-        QuestionKind::PeerConfirm => commitment(named, asked),
-        QuestionKind::G2 => comparison(named, asked),
-        QuestionKind::F5 => derivation(named, asked),
-        QuestionKind::PeerCheck => check_value(named, asked),
-        QuestionKind::OwnCheck => check_value(named, asked),
+impl fmt::Display for Key {
+    fn fmt<W: fmt::Write>(&self, f: &mut fmt::Formatter<W>) -> fmt::Result {
+        write!(f, "{}:{}", Hex(&self.0.ltk), names::level(self.0.level))
     }
 }
 
-// u and v.
-fn coordinates(line: Line, asked: Question) -> Line {
-    let u = asked.u;
-    let v = asked.v;
-    line.value(&u).value(&v)
+// A bond whole.
+#[derive(Clone, Copy)]
+pub(crate) struct Held(pub(crate) Bond);
+
+impl fmt::Display for Held {
+    fn fmt<W: fmt::Write>(&self, f: &mut fmt::Formatter<W>) -> fmt::Result {
+        write!(
+            f,
+            "{}:{}:{}",
+            Key(self.0),
+            At(self.0.address),
+            Hex(&self.0.irk)
+        )
+    }
 }
 
-// f4's arguments.
-fn commitment(line: Line, asked: Question) -> Line {
-    let n1 = asked.n1;
-    coordinates(line, asked).value(&n1).value(&[asked.z])
+#[derive(Clone, Copy)]
+pub(crate) struct At(pub(crate) Address);
+
+impl fmt::Display for At {
+    fn fmt<W: fmt::Write>(&self, f: &mut fmt::Formatter<W>) -> fmt::Result {
+        write!(
+            f,
+            "{:02x}{}",
+            address::kind_number(self.0.kind),
+            Hex(&self.0.octets)
+        )
+    }
 }
 
-// g2's arguments.
-fn comparison(line: Line, asked: Question) -> Line {
-    nonces(coordinates(line, asked), asked)
-}
+// A question with its arguments.
+#[derive(Clone, Copy)]
+pub(crate) struct Asked(pub(crate) Question);
 
-// n1 and n2.
-fn nonces(line: Line, asked: Question) -> Line {
-    let n1 = asked.n1;
-    let n2 = asked.n2;
-    line.value(&n1).value(&n2)
-}
-
-// a1 and a2.
-fn addresses(line: Line, asked: Question) -> Line {
-    let a1 = asked.a1;
-    let a2 = asked.a2;
-    let first = address(line.word(b":"), a1);
-    address(first.word(b":"), a2)
-}
-
-// f5's arguments.
-fn derivation(line: Line, asked: Question) -> Line {
-    let w = asked.u;
-    addresses(nonces(line.value(&w), asked), asked)
-}
-
-// f6's arguments.
-fn check_value(line: Line, asked: Question) -> Line {
-    let key = asked.key;
-    let begun = nonces(line.value(&key), asked);
-    addresses(secret(begun, asked), asked)
-}
-
-// r and the IO capabilities.
-fn secret(line: Line, asked: Question) -> Line {
-    let r = asked.r;
-    let iocap = asked.iocap;
-    line.value(&r).value(&iocap)
+impl fmt::Display for Asked {
+    fn fmt<W: fmt::Write>(&self, f: &mut fmt::Formatter<W>) -> fmt::Result {
+        let Question { u, v, n1, n2, .. } = self.0;
+        f.write_str(names::question(self.0.kind))?;
+        match self.0.kind {
+            QuestionKind::Nothing => Ok(()),
+            QuestionKind::DH => write!(f, ":{}:{}", Hex(&u), Hex(&v)),
+            QuestionKind::OwnConfirm | QuestionKind::PeerConfirm => {
+                write!(f, ":{}:{}:{}:{:02x}", Hex(&u), Hex(&v), Hex(&n1), self.0.z)
+            }
+            QuestionKind::G2 => write!(f, ":{}:{}:{}:{}", Hex(&u), Hex(&v), Hex(&n1), Hex(&n2)),
+            QuestionKind::F5 => {
+                let Question { a1, a2, .. } = self.0;
+                write!(
+                    f,
+                    ":{}:{}:{}:{}:{}",
+                    Hex(&u),
+                    Hex(&n1),
+                    Hex(&n2),
+                    At(a1),
+                    At(a2)
+                )
+            }
+            QuestionKind::PeerCheck | QuestionKind::OwnCheck => {
+                let Question {
+                    key,
+                    r,
+                    iocap,
+                    a1,
+                    a2,
+                    ..
+                } = self.0;
+                write!(f, ":{}:{}:{}", Hex(&key), Hex(&n1), Hex(&n2))?;
+                write!(f, ":{}:{}:{}:{}", Hex(&r), Hex(&iocap), At(a1), At(a2))
+            }
+        }
+    }
 }

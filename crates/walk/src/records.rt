@@ -1,12 +1,10 @@
 // The walk through the input: one record, one call, one line.
 ghost use Rattle.std.specs.Prelude.{◌≤◌, length};
 
-use crate::lines;
-use crate::lines::Fault;
-use crate::standing::seen;
-use crate::text::{Line, least};
-use calls::{Call, EventCall, Kind, ReadAnswer, SetupCall, StartKind};
-use protocol::{Answer, Setup};
+use crate::lines::{Fault, Line};
+use crate::parts::Said;
+use calls::{EventCall, Kind, SetupCall, StartKind};
+use protocol::Answer;
 use responder::{Responder, Stepped};
 use std::io;
 use wrapper::{Begun, Start};
@@ -14,141 +12,113 @@ use wrapper::{Begun, Start};
 // Where a command begins in the payload of its record.
 const COMMAND: usize = 156;
 
-// Where the walk stands: which record is next and where it begins, the machine, and the answer of the latest call. A start that began
-// counts as taken.
+// Where the walk stands: which record is next and where it begins, and the latest call, once a setup was read.
 #[derive(Clone, Copy)]
 struct Walk {
-    going: bool,
-    begun: bool,
     number: u64,
     offset: u64,
+    latest: Option<Latest>,
+}
+
+// The machine behind a call, and the call's answer. A start that began counts as taken.
+#[derive(Clone, Copy)]
+struct Latest {
     responder: Responder,
     answer: Answer,
 }
 
-// What is next in the input: a call to be made, nothing, or what stops the walk.
+// What a record did: the length of its payload, the call and its line.
 #[derive(Clone, Copy)]
-enum Next {
-    Setup,
-    Command,
-    Event,
-    Timeout,
-    Answer,
-    End,
-    Stop(Fault),
-}
-
-// What was read, and the length of its payload.
-#[derive(Clone, Copy)]
-struct Read {
-    next: Next,
+struct Turn {
     size: usize,
-}
-
-impl Walk {
-    // Writes a record's line. The same walk behind the record, whose payload has `size` octets: it goes on if the line was written.
-    fn next(
-        self,
-        rt: &impl Print,
-        line: Line,
-        size: usize,
-        responder: Responder,
-        answer: Answer,
-    ) -> Walk {
-        let header = self.offset.wrapping_add(4);
-        Walk {
-            going: write(rt, line),
-            begun: true,
-            number: self.number.wrapping_add(1),
-            offset: header.wrapping_add(size as u64),
-            responder,
-            answer,
-        }
-    }
-
-    // The walk behind a command or an event.
-    fn stepped(self, rt: &impl Print, line: Line, size: usize, stepped: Stepped) -> Walk {
-        let responder = stepped.responder;
-        let answer = stepped.answer;
-        self.next(rt, line, size, responder, answer)
-    }
-
-    fn ended(self) -> Walk {
-        let mut walk = self;
-        walk.going = false;
-        walk
-    }
-
-    // The record can't be read: its line says why and where.
-    fn stopped(self, rt: &impl Print, why: Fault) -> Walk {
-        write(rt, lines::stop(self.number, why, self.offset));
-        self.ended()
-    }
+    latest: Latest,
+    line: Line,
 }
 
 // A proved loop has to end, and nothing says that the input does: so turns are counted up to a number that no run reaches.
 pub(crate) fn replay(rt: &(impl Input + Print), payload: &mut [u8]) {
     let mut input = rt.reader();
-    let mut walk = start();
-    for _ in 0..u64::MAX {
-        if !walk.going {
-            break;
-        }
-        walk = turn(rt, &mut input, walk, payload);
-    }
-}
-
-// No call is made on this machine: a setup comes first.
-fn start() -> Walk {
-    let begun = wrapper::new_peripheral(no_setup());
-    let responder = begun.responder;
-    Walk {
-        going: true,
-        begun: false,
+    let mut walk = Walk {
         number: 1,
         offset: 0,
-        responder,
-        answer: Answer::Taken,
+        latest: None,
+    };
+    for _ in 0..u64::MAX {
+        let Some(next) = walk.next(rt, &mut input, payload) else {
+            break;
+        };
+        walk = next;
     }
 }
 
-fn no_setup() -> Setup {
-    let read = calls::read_setup(b"");
-    let call = read.call;
-    let setup = call.setup;
-    setup
+impl Walk {
+    // The walk behind the next record, whose line is written. None where the walk ends: no record follows, the record can't be read, or
+    // its line can't be written.
+    fn next(self, rt: &impl Print, input: &mut impl io::Read, payload: &mut [u8]) -> Option<Walk> {
+        match self.turn(input, payload) {
+            Ok(turn) => {
+                let Turn { size, latest, line } = turn?;
+                println!(rt; "{} {line}", self.number).ok()?;
+                Some(Walk {
+                    number: self.number.wrapping_add(1),
+                    offset: self.offset.wrapping_add(4).wrapping_add(size as u64),
+                    latest: Some(latest),
+                })
+            }
+            Err(fault) => {
+                println!(rt; "{} stop {fault} at {}", self.number, self.offset).ok()?;
+                None
+            }
+        }
+    }
+
+    // Reads a record and makes its call. None where the input ends before a record.
+    fn turn(self, input: &mut impl io::Read, payload: &mut [u8]) -> Result<Option<Turn>, Fault> {
+        let Some((kind, payload)) = record(input, payload)? else {
+            return Ok(None);
+        };
+        let (latest, line) = self.call(kind, payload)?;
+        Ok(Some(Turn {
+            size: payload.len(),
+            latest,
+            line,
+        }))
+    }
+
+    // A setup comes first.
+    fn call(self, kind: Kind, payload: &[u8]) -> Result<(Latest, Line), Fault> {
+        match (kind, self.latest) {
+            (Kind::Setup, _) => setup(payload),
+            (_, None) => Err(Fault::NoSetup),
+            (Kind::Command, Some(latest)) => latest.command(payload),
+            (Kind::Event, Some(latest)) => latest.event(payload),
+            (Kind::Timeout, Some(latest)) => latest.timeout(payload),
+            (Kind::Answer, Some(latest)) => latest.shown(payload),
+        }
+    }
 }
 
-fn turn(rt: &impl Print, input: &mut impl io::Read, walk: Walk, payload: &mut [u8]) -> Walk {
-    let read = record(input, walk.begun, payload);
-    let next = read.next;
-    let n = least(read.size, payload.len());
-    take(rt, walk, next, &payload[0..n])
-}
-
-// One record: its header, and then its payload, as long as the header says. Nothing of it is tested before it is read whole.
-fn record(input: &mut impl io::Read, begun: bool, payload: &mut [u8]) -> Read {
+// One record: its header, and then its payload, as long as the header says. Nothing of it is tested before it is read whole. None where
+// the input ends before a header.
+fn record<'a>(
+    input: &mut impl io::Read,
+    payload: &'a mut [u8],
+) -> Result<Option<(Kind, &'a [u8])>, Fault> {
     let mut header = [0u8; 4];
     let got = read_full(input, &mut header);
+    if got == 0 {
+        return Ok(None);
+    }
     if got < 4 {
-        return Read {
-            next: cut(got),
-            size: 0,
-        };
+        return Err(Fault::Incomplete);
     }
     let head = calls::read_header(&header);
-    let kind = head.kind;
-    let size = least(head.length, payload.len());
-    if read_full(input, &mut payload[0..size]) < size {
-        return Read {
-            next: Next::Stop(Fault::Incomplete),
-            size,
-        };
+    let size = head.length.min(payload.len());
+    if read_full(input, &mut payload[..size]) < size {
+        return Err(Fault::Incomplete);
     }
-    Read {
-        next: called(kind, begun),
-        size,
-    }
+    let kind = head.kind.ok_or(Fault::UnknownKind)?;
+    Ok(Some((kind, &payload[..size])))
 }
 
 // Reads until the slice is full, the input ends or a read fails, and answers how many octets were read.
@@ -166,187 +136,80 @@ fn read_full(input: &mut impl io::Read, octets: &mut [u8]) -> usize
     done
 }
 
-// The input ends before a header, or within it.
-fn cut(got: usize) -> Next {
-    if got == 0 {
-        return Next::End;
-    }
-    Next::Stop(Fault::Incomplete)
-}
-
-// The call of a record.
-fn called(kind: Kind, begun: bool) -> Next {
-    match kind {
-        Kind::Setup => Next::Setup,
-        Kind::Command => later(Next::Command, begun),
-        Kind::Event => later(Next::Event, begun),
-        Kind::Timeout => later(Next::Timeout, begun),
-        Kind::Answer => later(Next::Answer, begun),
-        Kind::Unknown => Next::Stop(Fault::UnknownKind),
-    }
-}
-
-// A setup comes first.
-fn later(next: Next, begun: bool) -> Next {
-    if begun {
-        next
-    } else {
-        Next::Stop(Fault::NoSetup)
-    }
-}
-
-fn take(rt: &impl Print, walk: Walk, next: Next, payload: &[u8]) -> Walk {
-    match next {
-        Next::Setup => setup(rt, walk, payload),
-        Next::Command => command(rt, walk, payload),
-        Next::Event => event(rt, walk, payload),
-        Next::Timeout => timeout(rt, walk, payload),
-        Next::Answer => answer(rt, walk, payload),
-        Next::End => walk.ended(),
-        Next::Stop(why) => walk.stopped(rt, why),
-    }
-}
-
-fn setup(rt: &impl Print, walk: Walk, payload: &[u8]) -> Walk {
-    let read = calls::read_setup(payload);
-    if read.fits {
-        let call = read.call;
-        return take_setup(rt, walk, call, payload.len());
-    }
-    walk.stopped(rt, Fault::Misfit)
-}
-
-fn take_setup(rt: &impl Print, walk: Walk, call: SetupCall, size: usize) -> Walk {
+fn setup(payload: &[u8]) -> Result<(Latest, Line), Fault> {
+    let call = calls::read_setup(payload).ok_or(Fault::Misfit)?;
     let mut outbox = [0u8; 512];
     let begun = begin(call, &mut outbox);
-    let responder = begun.responder;
-    let answer = begun.answer;
-    let line = lines::setup(walk.number, begun, outbox);
-    walk.next(rt, line, size, responder, start_answer(answer))
-}
-
-fn command(rt: &impl Print, walk: Walk, payload: &[u8]) -> Walk {
-    let read = calls::read_command(payload);
-    if read.fits {
-        let call = read.call;
-        let at = least(COMMAND, payload.len());
-        return take_command(rt, walk, call, &payload[at..], payload.len());
-    }
-    walk.stopped(rt, Fault::Misfit)
-}
-
-fn take_command(rt: &impl Print, walk: Walk, call: Call, cmd: &[u8], size: usize) -> Walk {
-    let responder = walk.responder;
-    let supplied = call.supplied;
-    let given = call.given;
-    let asked = responder.command_question(cmd, supplied, given);
-    let mut outbox = [0u8; 512];
-    let room = least(call.outbox, 512);
-    let stepped = responder.command(cmd, supplied, &mut outbox[0..room]);
-    let line = lines::command(walk.number, stepped, outbox, asked);
-    walk.stepped(rt, line, size, stepped)
-}
-
-fn event(rt: &impl Print, walk: Walk, payload: &[u8]) -> Walk {
-    let read = calls::read_event(payload);
-    if read.fits {
-        let call = read.call;
-        return take_event(rt, walk, call, payload.len());
-    }
-    walk.stopped(rt, Fault::Misfit)
-}
-
-fn take_event(rt: &impl Print, walk: Walk, call: EventCall, size: usize) -> Walk {
-    let responder = walk.responder;
-    let came = call.came;
-    let values = call.values;
-    let with = call.call;
-    let supplied = with.supplied;
-    let given = with.given;
-    let asked = responder.event_question(came, values, supplied, given);
-    let mut outbox = [0u8; 512];
-    let room = least(with.outbox, 512);
-    let stepped = responder.event(came, values, supplied, &mut outbox[0..room]);
-    let line = lines::event(walk.number, stepped, outbox, asked);
-    walk.stepped(rt, line, size, stepped)
-}
-
-fn timeout(rt: &impl Print, walk: Walk, payload: &[u8]) -> Walk {
-    if payload.len() == 0 {
-        return take_timeout(rt, walk);
-    }
-    walk.stopped(rt, Fault::Misfit)
-}
-
-fn take_timeout(rt: &impl Print, walk: Walk) -> Walk {
-    let responder = walk.responder;
-    let answer = walk.answer;
-    let after = responder.mark_timeout();
-    let line = lines::timeout(walk.number, seen(after));
-    walk.next(rt, line, 0, after, answer)
-}
-
-fn answer(rt: &impl Print, walk: Walk, payload: &[u8]) -> Walk {
-    let read = calls::read_answer(payload);
-    match read {
-        ReadAnswer::Fits(shown) => take_answer(rt, walk, shown, payload.len()),
-        ReadAnswer::Misfit => walk.stopped(rt, Fault::Misfit),
-    }
-}
-
-fn take_answer(rt: &impl Print, walk: Walk, shown: Answer, size: usize) -> Walk {
-    let responder = walk.responder;
-    let given = walk.answer;
-    let line = lines::answer(walk.number, same(shown, given), seen(responder));
-    walk.next(rt, line, size, responder, given)
+    let latest = Latest {
+        responder: begun.responder,
+        answer: match begun.answer {
+            Start::Started => Answer::Taken,
+            Start::Refused(refusal) => Answer::Refused(refusal),
+        },
+    };
+    Ok((latest, Line::setup(begun, outbox)))
 }
 
 // Begins a pairing. A plain start has no outbox.
 fn begin(call: SetupCall, outbox: &mut [u8]) -> Begun {
-    let start = call.start;
-    let setup = call.setup;
-    if let StartKind::Plain = start {
-        return wrapper::new_peripheral(setup);
+    if call.start == StartKind::Plain {
+        return wrapper::new_peripheral(call.setup);
     }
-    let room = least(call.outbox, outbox.len());
-    wrapper::initiate_peripheral(setup, by_user(start), &mut outbox[0..room])
+    let room = call.outbox.min(outbox.len());
+    let by_user = call.start == StartKind::ByUser;
+    wrapper::initiate_peripheral(call.setup, by_user, &mut outbox[..room])
 }
 
-fn by_user(start: StartKind) -> bool {
-    if let StartKind::ByUser = start {
-        true
-    } else {
-        false
+impl Latest {
+    fn command(self, payload: &[u8]) -> Result<(Latest, Line), Fault> {
+        let call = calls::read_command(payload).ok_or(Fault::Misfit)?;
+        let cmd = &payload[COMMAND.min(payload.len())..];
+        let mut outbox = [0u8; 512];
+        let room = call.outbox.min(512);
+        let asked = self
+            .responder
+            .command_question(cmd, call.supplied, call.given);
+        let stepped = self
+            .responder
+            .command(cmd, call.supplied, &mut outbox[..room]);
+        Ok(Latest::called(stepped, Line::call("command", stepped, outbox, asked)))
     }
-}
 
-fn start_answer(answer: Start) -> Answer {
-    match answer {
-        Start::Started => Answer::Taken,
-        Start::Refused(refusal) => Answer::Refused(refusal),
+    fn event(self, payload: &[u8]) -> Result<(Latest, Line), Fault> {
+        let EventCall { call, came, values } = calls::read_event(payload).ok_or(Fault::Misfit)?;
+        let mut outbox = [0u8; 512];
+        let room = call.outbox.min(512);
+        let asked = self
+            .responder
+            .event_question(came, values, call.supplied, call.given);
+        let stepped = self
+            .responder
+            .event(came, values, call.supplied, &mut outbox[..room]);
+        Ok(Latest::called(stepped, Line::call("event", stepped, outbox, asked)))
     }
-}
 
-// Two answers are the same where they have the same two octets.
-fn same(a: Answer, b: Answer) -> bool {
-    let mut first = [0u8; 2];
-    let mut second = [0u8; 2];
-    calls::put_answer(&mut first, a);
-    calls::put_answer(&mut second, b);
-    if first[0] == second[0] {
-        return first[1] == second[1];
+    // Behind a command or an event.
+    fn called(stepped: Stepped, line: Line) -> (Latest, Line) {
+        let latest = Latest {
+            responder: stepped.responder,
+            answer: stepped.answer,
+        };
+        (latest, line)
     }
-    false
-}
 
-// Writes the line, and answers whether that went well.
-fn write(rt: &impl Print, line: Line) -> bool {
-    let octets = line.octets;
-    write_first(rt, &octets, line.length)
-}
+    fn timeout(self, payload: &[u8]) -> Result<(Latest, Line), Fault> {
+        if !payload.is_empty() {
+            return Err(Fault::Misfit);
+        }
+        let responder = self.responder.mark_timeout();
+        let line = Line::quiet("timeout", Said::Nothing, responder);
+        Ok((Latest { responder, ..self }, line))
+    }
 
-// Writes the first n octets.
-fn write_first(rt: &impl Print, octets: &[u8], n: usize) -> bool {
-    let end = least(n, octets.len());
-    rt.write_all(&octets[0..end]).is_ok()
+    // An answer that was seen is compared with the latest call's.
+    fn shown(self, payload: &[u8]) -> Result<(Latest, Line), Fault> {
+        let shown = calls::read_answer(payload).ok_or(Fault::Misfit)?;
+        let said = Said::Seen(shown == self.answer);
+        Ok((self, Line::quiet("answer", said, self.responder)))
+    }
 }

@@ -1,11 +1,12 @@
 // The parts of a line that say how the machine stands after the call: state, method, round, held, level, bond and peer.
-use crate::parts;
-use crate::text::Line;
+use crate::parts::{At, Held};
+use crate::text::OrDash;
 use address::Address;
 use machine::Phase;
 use method::{PairingMethod, SecurityLevel};
 use protocol::MaybeBond;
 use responder::Responder;
+use std::fmt;
 
 // What a line shows of a machine.
 #[derive(Clone, Copy)]
@@ -17,100 +18,61 @@ pub(crate) struct View {
     peer: Address,
 }
 
-// What a phase shows beside its name.
-#[derive(Clone, Copy)]
-enum Shown {
-    Nothing,
-    Held(bool),
-    Round(u8),
-}
-
 pub(crate) fn seen(responder: Responder) -> View {
-    let state = responder.state;
-    let phase = state.phase;
-    let method = state.method;
     View {
-        phase,
-        method,
+        phase: responder.state.phase,
+        method: responder.state.method,
         level: queries::security_level(responder),
         bond: queries::bond_information(responder),
         peer: queries::peer_address(responder),
     }
 }
 
-pub(crate) fn standing(line: Line, view: View) -> Line {
-    let phase = view.phase;
-    let method = view.method;
-    let named = waiting(line.word(b" state="), phase);
-    let chosen = named.word(b" method=").name(names::method(method));
-    known(counts(chosen, beside(phase)), view)
-}
-
-// What is to be known from outside: level, bond and peer.
-fn known(line: Line, view: View) -> Line {
-    let level = view.level;
-    let held = view.bond;
-    let peer = view.peer;
-    let levelled = line.word(b" level=").name(names::level(level));
-    let bonded = bond(levelled.word(b" bond="), held);
-    parts::address(bonded.word(b" peer="), peer)
-}
-
-// The state's name, with the failure's in Error.
-fn waiting(line: Line, phase: Phase) -> Line {
-    let named = line.name(names::state(phase));
-    if let Phase::Error(failure) = phase {
-        return named.name(names::failure(failure));
+impl View {
+    // What stands behind the name of an error: the failure's.
+    fn failure(self) -> &'static str {
+        match self.phase {
+            Phase::Error(failure) => names::failure(failure),
+            _ => "",
+        }
     }
-    named
-}
 
-fn beside(phase: Phase) -> Shown {
-    match phase {
-        Phase::WaitingPairingRequest => Shown::Nothing,
-        Phase::WaitingPublicKey => Shown::Nothing,
-        Phase::WaitingNumericComparisonRandom => Shown::Nothing,
-        Phase::WaitingNumericComparisonResult(held) => Shown::Held(held),
-        Phase::WaitingPassKeyInput(held) => Shown::Held(held),
-        Phase::WaitingPassKeyEntryConfirm(round) => Shown::Round(round),
-        Phase::WaitingPassKeyEntryRandom(round) => Shown::Round(round),
-        Phase::WaitingOobData => Shown::Nothing,
-        Phase::WaitingOobRandom => Shown::Nothing,
-        Phase::WaitingDHKeyEa => Shown::Nothing,
-        Phase::WaitingLinkEncrypted => Shown::Nothing,
-        Phase::WaitingIdentitityInformation => Shown::Nothing,
-        Phase::WaitingIdentitityAddressInformation => Shown::Nothing,
-        Phase::Success => Shown::Nothing,
-        Phase::Error(_failure) => Shown::Nothing,
+    fn round(self) -> Option<u8> {
+        match self.phase {
+            Phase::WaitingPassKeyEntryConfirm(round) => Some(round),
+            Phase::WaitingPassKeyEntryRandom(round) => Some(round),
+            _ => None,
+        }
+    }
+
+    // Whether a payload is held, as 0 or 1.
+    fn held(self) -> Option<u8> {
+        match self.phase {
+            Phase::WaitingNumericComparisonResult(held) => Some(u8::from(held)),
+            Phase::WaitingPassKeyInput(held) => Some(u8::from(held)),
+            _ => None,
+        }
+    }
+
+    fn known(self) -> Option<Held> {
+        if self.bond.there {
+            return Some(Held(self.bond.bond));
+        }
+        None
     }
 }
 
-// Round and held.
-fn counts(line: Line, shown: Shown) -> Line {
-    match shown {
-        Shown::Nothing => line.word(b" round=- held=-"),
-        Shown::Held(held) => payload(line, held),
-        Shown::Round(number) => round(line, number),
+impl fmt::Display for View {
+    fn fmt<W: fmt::Write>(&self, f: &mut fmt::Formatter<W>) -> fmt::Result {
+        write!(f, "state={}{}", names::state(self.phase), self.failure())?;
+        write!(f, " method={}", names::method(self.method))?;
+        write!(
+            f,
+            " round={} held={}",
+            OrDash(self.round()),
+            OrDash(self.held())
+        )?;
+        write!(f, " level={}", names::level(self.level))?;
+        write!(f, " bond={} peer={}", OrDash(self.known()), At(self.peer))
     }
-}
-
-fn payload(line: Line, held: bool) -> Line {
-    if held {
-        return line.word(b" round=- held=1");
-    }
-    line.word(b" round=- held=0")
-}
-
-fn round(line: Line, number: u8) -> Line {
-    line.word(b" round=")
-        .decimal(number as u64)
-        .word(b" held=-")
-}
-
-fn bond(line: Line, held: MaybeBond) -> Line {
-    let bond = held.bond;
-    if held.there {
-        return parts::bond(line, bond);
-    }
-    line.word(b"-")
 }
