@@ -2,8 +2,6 @@
 // What it must write comes from the Rust crate's own choosers (oracle/combinations).
 #![tactic(auto)]
 
-ghost use Rattle.std.specs.Prelude.{◌<◌};
-
 use features::{PairingFeatures, UseOutOfBand};
 use method::{PairingMethod, PassKeyEntryAction};
 use std::{fmt, io};
@@ -23,8 +21,8 @@ fn combination(rt: &impl Print, n: u32) -> io::Result<()> {
     let legacy = method::choose_legacy_pairing_method(central, peripheral);
     println!(rt;
         "central {} peripheral {} lesc {} legacy {}",
-        Side(central),
-        Side(peripheral),
+        Told(central),
+        Told(peripheral),
         Chosen(lesc),
         Chosen(legacy)
     )
@@ -42,9 +40,9 @@ fn side(io: u32, oob: u32, mitm: u32) -> PairingFeatures {
 }
 
 #[derive(Clone, Copy)]
-struct Side(PairingFeatures);
+struct Told(PairingFeatures);
 
-impl fmt::Display for Side {
+impl fmt::Display for Told {
     fn fmt<W: fmt::Write>(&self, f: &mut fmt::Formatter<W>) -> fmt::Result {
         let oob = u8::from(self.0.oob == UseOutOfBand::Present);
         let mitm = u8::from(self.0.man_in_the_middle());
