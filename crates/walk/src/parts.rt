@@ -57,6 +57,7 @@ impl fmt::Display for Frames<'_> {
 }
 
 // Where the first frame ends: its header has four octets, the first two of which count what is behind it.
+#[tactic(auto, unfolding(crate::specs::Frames::frame_end))]
 fn frame_end(sent: &[u8]) -> usize
     ensures { result ≡ frame_end sent.now }
 {
@@ -162,39 +163,46 @@ pub(crate) struct Asked(pub(crate) Question);
 
 impl fmt::Display for Asked {
     fn fmt<W: fmt::Write>(&self, f: &mut fmt::Formatter<W>) -> fmt::Result {
-        let Question { u, v, n1, n2, .. } = self.0;
         f.write_str(names::question(self.0.kind))?;
         match self.0.kind {
             QuestionKind::Nothing => Ok(()),
-            QuestionKind::DH => write!(f, ":{}:{}", Hex(&u), Hex(&v)),
-            QuestionKind::OwnConfirm | QuestionKind::PeerConfirm => {
-                write!(f, ":{}:{}:{}:{:02x}", Hex(&u), Hex(&v), Hex(&n1), self.0.z)
-            }
-            QuestionKind::G2 => write!(f, ":{}:{}:{}:{}", Hex(&u), Hex(&v), Hex(&n1), Hex(&n2)),
-            QuestionKind::F5 => {
-                let Question { a1, a2, .. } = self.0;
-                write!(
-                    f,
-                    ":{}:{}:{}:{}:{}",
-                    Hex(&u),
-                    Hex(&n1),
-                    Hex(&n2),
-                    At(a1),
-                    At(a2)
-                )
-            }
-            QuestionKind::PeerCheck | QuestionKind::OwnCheck => {
-                let Question {
-                    key,
-                    r,
-                    iocap,
-                    a1,
-                    a2,
-                    ..
-                } = self.0;
-                write!(f, ":{}:{}:{}", Hex(&key), Hex(&n1), Hex(&n2))?;
-                write!(f, ":{}:{}:{}:{}", Hex(&r), Hex(&iocap), At(a1), At(a2))
-            }
+            QuestionKind::DH => write!(f, ":{}:{}", Hex(&self.0.u), Hex(&self.0.v)),
+            QuestionKind::OwnConfirm | QuestionKind::PeerConfirm => write!(
+                f,
+                ":{}:{}:{}:{:02x}",
+                Hex(&self.0.u),
+                Hex(&self.0.v),
+                Hex(&self.0.n1),
+                self.0.z
+            ),
+            QuestionKind::G2 => write!(
+                f,
+                ":{}:{}:{}:{}",
+                Hex(&self.0.u),
+                Hex(&self.0.v),
+                Hex(&self.0.n1),
+                Hex(&self.0.n2)
+            ),
+            QuestionKind::F5 => write!(
+                f,
+                ":{}:{}:{}:{}:{}",
+                Hex(&self.0.u),
+                Hex(&self.0.n1),
+                Hex(&self.0.n2),
+                At(self.0.a1),
+                At(self.0.a2)
+            ),
+            QuestionKind::PeerCheck | QuestionKind::OwnCheck => write!(
+                f,
+                ":{}:{}:{}:{}:{}:{}:{}",
+                Hex(&self.0.key),
+                Hex(&self.0.n1),
+                Hex(&self.0.n2),
+                Hex(&self.0.r),
+                Hex(&self.0.iocap),
+                At(self.0.a1),
+                At(self.0.a2)
+            ),
         }
     }
 }
