@@ -6,8 +6,8 @@ use Rattle.protocol.specs.declared.ConnectionEvent.{ConnectionEvent}
 use Rattle.protocol.specs.declared.ConnectionEvent.TheVariants as E
 use Rattle.protocol.specs.declared.Failure.{Failure}
 use Rattle.protocol.specs.declared.Failure.TheVariants as F
-use Rattle.protocol.specs.declared.QuestionKind.{QuestionKind}
-use Rattle.protocol.specs.declared.QuestionKind.TheVariants as Q
+use Rattle.protocol.specs.declared.Question.{Question}
+use Rattle.protocol.specs.declared.Question.TheVariants as Q
 use Rattle.protocol.specs.declared.Refusal.{Refusal}
 use Rattle.protocol.specs.declared.Refusal.TheVariants as R
 use Rattle.machine.specs.declared.Phase.{Phase}
@@ -78,9 +78,7 @@ state_name P.WaitingIdentitityAddressInformation = "WaitingIdentitityAddressInfo
 state_name P.Success = "Success"
 state_name (P.Error failure) = "Error"
 
--- nothing is written for no event
 abbrev pub event_name : ConnectionEvent → String
-event_name E.Nothing = ""
 event_name E.BondLost = "BondLost"
 event_name E.OobRequest = "OobRequest"
 event_name (E.PassKeyDisplay passkey) = "PassKeyDisplay"
@@ -89,12 +87,11 @@ event_name (E.PassKeyConfirm shown) = "PassKeyConfirm"
 event_name (E.PairingComplete level reported) = "PairingComplete"
 event_name (E.PairingFailed failure) = "PairingFailed"
 
-abbrev pub question_name : QuestionKind → String
-question_name Q.Nothing = "-"
-question_name Q.DH = "DH"
-question_name Q.OwnConfirm = "f4own"
-question_name Q.PeerConfirm = "f4peer"
-question_name Q.G2 = "g2"
-question_name Q.F5 = "f5"
-question_name Q.PeerCheck = "f6peer"
-question_name Q.OwnCheck = "f6own"
+abbrev pub question_name : Question → String
+question_name (Q.DH x y) = "DH"
+question_name (Q.OwnConfirm c) = "f4own"
+question_name (Q.PeerConfirm c) = "f4peer"
+question_name (Q.G2 u v x y) = "g2"
+question_name (Q.F5 w n1 n2 a1 a2) = "f5"
+question_name (Q.PeerCheck c) = "f6peer"
+question_name (Q.OwnCheck c) = "f6own"

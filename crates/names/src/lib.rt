@@ -6,7 +6,7 @@ ghost use Rattle.names.specs.Names.{octets, failure_name, refusal_name, level_na
 
 use machine::Phase;
 use method::{PairingMethod, PassKeyEntryAction, SecurityLevel};
-use protocol::{ConnectionEvent, Failure, QuestionKind, Refusal};
+use protocol::{ConnectionEvent, Failure, Question, Refusal};
 
 // A failure's number and name.
 pub fn failure(failure: Failure) -> &'static str
@@ -96,12 +96,10 @@ pub fn state(phase: Phase) -> &'static str
     }
 }
 
-// Nothing for no event.
 pub fn event(told: ConnectionEvent) -> &'static str
     ensures { result.now ≡ octets (event_name told) }
 {
     match told {
-        ConnectionEvent::Nothing => "",
         ConnectionEvent::BondLost => "BondLost",
         ConnectionEvent::OobRequest => "OobRequest",
         ConnectionEvent::PassKeyDisplay(_passkey) => "PassKeyDisplay",
@@ -112,17 +110,16 @@ pub fn event(told: ConnectionEvent) -> &'static str
     }
 }
 
-pub fn question(kind: QuestionKind) -> &'static str
-    ensures { result.now ≡ octets (question_name kind) }
+pub fn question(asked: Question) -> &'static str
+    ensures { result.now ≡ octets (question_name asked) }
 {
-    match kind {
-        QuestionKind::Nothing => "-",
-        QuestionKind::DH => "DH",
-        QuestionKind::OwnConfirm => "f4own",
-        QuestionKind::PeerConfirm => "f4peer",
-        QuestionKind::G2 => "g2",
-        QuestionKind::F5 => "f5",
-        QuestionKind::PeerCheck => "f6peer",
-        QuestionKind::OwnCheck => "f6own",
+    match asked {
+        Question::DH { .. } => "DH",
+        Question::OwnConfirm(_) => "f4own",
+        Question::PeerConfirm(_) => "f4peer",
+        Question::G2 { .. } => "g2",
+        Question::F5 { .. } => "f5",
+        Question::PeerCheck(_) => "f6peer",
+        Question::OwnCheck(_) => "f6own",
     }
 }

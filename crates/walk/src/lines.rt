@@ -2,7 +2,7 @@
 use crate::parts::{Asked, Deed, Events, Frames, Said};
 use crate::standing::{View, seen};
 use crate::text::OrDash;
-use protocol::{Action, Answer, ConnectionEvent, Question};
+use protocol::{Action, Answer, Question};
 use responder::{Responder, Stepped};
 use std::fmt;
 use wrapper::{Begun, Start};
@@ -58,14 +58,14 @@ impl Line {
         kind: &'static str,
         stepped: Stepped,
         outbox: [u8; 512],
-        asked: Question,
+        asked: Option<Question>,
     ) -> Line {
         Line {
             outbox,
             sent: stepped.sent,
-            events: Events(told(stepped.first), told(stepped.second)),
-            action: Some(stepped.action),
-            asked: Some(asked),
+            events: Events(stepped.first, stepped.second),
+            action: stepped.action,
+            asked,
             ..Line::quiet(kind, Said::Answer(stepped.answer), stepped.responder)
         }
     }
@@ -82,13 +82,6 @@ impl Line {
             view: seen(responder),
             asked: None,
         }
-    }
-}
-
-fn told(event: ConnectionEvent) -> Option<ConnectionEvent> {
-    match event {
-        ConnectionEvent::Nothing => None,
-        told => Some(told),
     }
 }
 

@@ -5,7 +5,7 @@ ghost use Rattle.walk.specs.Frames.{frame_end};
 use crate::text::{Hex, OrDash};
 use address::Address;
 use method::SecurityLevel;
-use protocol::{Action, ActionKind, Answer, Bond, ConnectionEvent, Question, QuestionKind};
+use protocol::{Action, Answer, Bond, ConnectionEvent, Question};
 use std::fmt;
 
 // What stands behind `answer=`.
@@ -109,10 +109,9 @@ pub(crate) struct Deed(pub(crate) Action);
 
 impl fmt::Display for Deed {
     fn fmt<W: fmt::Write>(&self, f: &mut fmt::Formatter<W>) -> fmt::Result {
-        match self.0.kind {
-            ActionKind::Nothing => f.write_str("-"),
-            ActionKind::EnableEncryption => write!(f, "EnableEncryption:{}", Key(self.0.bond)),
-            ActionKind::StoreBond => write!(f, "StoreBond:{}", Held(self.0.bond)),
+        match self.0 {
+            Action::EnableEncryption(bond) => write!(f, "EnableEncryption:{}", Key(bond)),
+            Action::StoreBond(bond) => write!(f, "StoreBond:{}", Held(bond)),
         }
     }
 }
@@ -151,7 +150,7 @@ impl fmt::Display for At {
         write!(
             f,
             "{:02x}{}",
-            address::kind_number(self.0.kind),
+            u8::from(self.0.kind),
             Hex(&self.0.octets)
         )
     }
@@ -163,45 +162,44 @@ pub(crate) struct Asked(pub(crate) Question);
 
 impl fmt::Display for Asked {
     fn fmt<W: fmt::Write>(&self, f: &mut fmt::Formatter<W>) -> fmt::Result {
-        f.write_str(names::question(self.0.kind))?;
-        match self.0.kind {
-            QuestionKind::Nothing => Ok(()),
-            QuestionKind::DH => write!(f, ":{}:{}", Hex(&self.0.u), Hex(&self.0.v)),
-            QuestionKind::OwnConfirm | QuestionKind::PeerConfirm => write!(
+        f.write_str(names::question(self.0))?;
+        match self.0 {
+            Question::DH { x, y } => write!(f, ":{}:{}", Hex(&x), Hex(&y)),
+            Question::OwnConfirm(of) | Question::PeerConfirm(of) => write!(
                 f,
                 ":{}:{}:{}:{:02x}",
-                Hex(&self.0.u),
-                Hex(&self.0.v),
-                Hex(&self.0.n1),
-                self.0.z
+                Hex(&of.u),
+                Hex(&of.v),
+                Hex(&of.x),
+                of.z
             ),
-            QuestionKind::G2 => write!(
+            Question::G2 { u, v, x, y } => write!(
                 f,
                 ":{}:{}:{}:{}",
-                Hex(&self.0.u),
-                Hex(&self.0.v),
-                Hex(&self.0.n1),
-                Hex(&self.0.n2)
+                Hex(&u),
+                Hex(&v),
+                Hex(&x),
+                Hex(&y)
             ),
-            QuestionKind::F5 => write!(
+            Question::F5 { w, n1, n2, a1, a2 } => write!(
                 f,
                 ":{}:{}:{}:{}:{}",
-                Hex(&self.0.u),
-                Hex(&self.0.n1),
-                Hex(&self.0.n2),
-                At(self.0.a1),
-                At(self.0.a2)
+                Hex(&w),
+                Hex(&n1),
+                Hex(&n2),
+                At(a1),
+                At(a2)
             ),
-            QuestionKind::PeerCheck | QuestionKind::OwnCheck => write!(
+            Question::PeerCheck(of) | Question::OwnCheck(of) => write!(
                 f,
                 ":{}:{}:{}:{}:{}:{}:{}",
-                Hex(&self.0.key),
-                Hex(&self.0.n1),
-                Hex(&self.0.n2),
-                Hex(&self.0.r),
-                Hex(&self.0.iocap),
-                At(self.0.a1),
-                At(self.0.a2)
+                Hex(&of.w),
+                Hex(&of.n1),
+                Hex(&of.n2),
+                Hex(&of.r),
+                Hex(&of.iocap),
+                At(of.a1),
+                At(of.a2)
             ),
         }
     }

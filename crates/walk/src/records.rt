@@ -3,7 +3,7 @@ ghost use Rattle.std.specs.Prelude.{◌≤◌, length};
 
 use crate::lines::{Fault, Line};
 use crate::parts::Said;
-use calls::{EventCall, Kind, SetupCall, StartKind};
+use calls::{Kind, SetupCall, StartKind};
 use protocol::Answer;
 use responder::{Responder, Stepped};
 use std::io;
@@ -153,11 +153,11 @@ fn setup(payload: &[u8]) -> Result<(Latest, Line), Fault> {
 // Begins a pairing. A plain start has no outbox.
 fn begin(call: SetupCall, outbox: &mut [u8]) -> Begun {
     if call.start == StartKind::Plain {
-        return wrapper::new_peripheral(call.setup);
+        return wrapper::new_peripheral(call.setup());
     }
     let room = call.outbox.min(outbox.len());
     let by_user = call.start == StartKind::ByUser;
-    wrapper::initiate_peripheral(call.setup, by_user, &mut outbox[..room])
+    wrapper::initiate_peripheral(call.setup(), by_user, &mut outbox[..room])
 }
 
 impl Latest {
@@ -176,15 +176,17 @@ impl Latest {
     }
 
     fn event(self, payload: &[u8]) -> Result<(Latest, Line), Fault> {
-        let EventCall { call, came, values } = calls::read_event(payload).ok_or(Fault::Misfit)?;
+        let event = calls::read_event(payload).ok_or(Fault::Misfit)?;
+        let call = event.call;
+        let came = event.event();
         let mut outbox = [0u8; 512];
         let room = call.outbox.min(512);
         let asked = self
             .responder
-            .event_question(came, values, call.supplied, call.given);
+            .event_question(came, call.supplied, call.given);
         let stepped = self
             .responder
-            .event(came, values, call.supplied, &mut outbox[..room]);
+            .event(came, call.supplied, &mut outbox[..room]);
         Ok(Latest::called(stepped, Line::call("event", stepped, outbox, asked)))
     }
 

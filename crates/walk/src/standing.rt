@@ -4,7 +4,7 @@ use crate::text::OrDash;
 use address::Address;
 use machine::Phase;
 use method::{PairingMethod, SecurityLevel};
-use protocol::MaybeBond;
+use protocol::Bond;
 use responder::Responder;
 use std::fmt;
 
@@ -14,7 +14,7 @@ pub(crate) struct View {
     phase: Phase,
     method: PairingMethod,
     level: SecurityLevel,
-    bond: MaybeBond,
+    bond: Option<Bond>,
     peer: Address,
 }
 
@@ -53,13 +53,6 @@ impl View {
             _ => None,
         }
     }
-
-    fn known(self) -> Option<Held> {
-        if self.bond.there {
-            return Some(Held(self.bond.bond));
-        }
-        None
-    }
 }
 
 impl fmt::Display for View {
@@ -73,6 +66,6 @@ impl fmt::Display for View {
             OrDash(self.held())
         )?;
         write!(f, " level={}", names::level(self.level))?;
-        write!(f, " bond={} peer={}", OrDash(self.known()), At(self.peer))
+        write!(f, " bond={} peer={}", OrDash(self.bond.map(Held)), At(self.peer))
     }
 }

@@ -2,10 +2,6 @@
 use Rattle.names.specs.Names.{octets}
 use Rattle.names.proofs.event.Goals as goal
 
-pub returns-in-Nothing : goal.returns-in-Nothing
-unfolding octets
-returns-in-Nothing c = rw c.in-Nothing.is
-
 pub returns-in-BondLost : goal.returns-in-BondLost
 unfolding octets
 returns-in-BondLost c = rw c.in-BondLost.is

@@ -2,10 +2,6 @@
 use Rattle.names.specs.Names.{octets}
 use Rattle.names.proofs.question.Goals as goal
 
-pub returns-in-Nothing : goal.returns-in-Nothing
-unfolding octets
-returns-in-Nothing c = rw c.in-Nothing.is
-
 pub returns-in-DH : goal.returns-in-DH
 unfolding octets
 returns-in-DH c = rw c.in-DH.is

@@ -9,6 +9,15 @@ unfolding little join
 returns c =
     let call = c.args.call in
     rw (
-      c.from-5.ensures, c.is_some.ensures, flag_byte (is_some call.passkey), c.from-4.ensures, flag_byte call.bonding, c.from-3.ensures, c.from-2.ensures, c.from.ensures,
-      c.bytes4-digits.ensures, c.unwrap_or.ensures, c.bytes2-outbox.ensures
+      c.from-5.ensures,
+      c.is_some.ensures,
+      flag_byte (is_some call.passkey),
+      c.from-4.ensures,
+      flag_byte call.bonding,
+      c.from-3.ensures,
+      c.from-2.ensures,
+      c.from.ensures,
+      c.bytes4-digits.ensures,
+      c.unwrap_or.ensures,
+      c.bytes2-outbox.ensures,
     )
