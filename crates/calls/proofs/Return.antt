@@ -10,7 +10,7 @@ use lib.Seq.{take_all}
 use lib.Dec.{eqb}
 use borrow.Author.Tests.{eq-eqb, ne_eqb, le-leb, eqb-true}
 use Rattle.std.specs.Prelude.{Option, Some, None}
-use Rattle.protocol.specs.Numbers.{failure_number, refusal_number}
+use Rattle.protocol.specs.Numbers.{failure_number, failure_of, refusal_number, refusal_of}
 use Rattle.protocol.specs.declared.Failure.TheVariants as F
 use Rattle.protocol.specs.declared.Refusal.TheVariants as R
 use Rattle.protocol.specs.declared.Answer.{Answer}
@@ -21,7 +21,7 @@ use Rattle.calls.specs.declared.Kind.{Kind}
 use Rattle.calls.specs.declared.Kind.TheVariants as K
 use Rattle.calls.specs.declared.Header.{Header}
 use Rattle.calls.specs.Header.{record_number, record_of, header_octets, read_header}
-use Rattle.calls.specs.Answer.{answer_octets, failure_of, refusal_of, taken_of, failed_of, refused_of, read_answer}
+use Rattle.calls.specs.Answer.{answer_octets, taken_of, failed_of, refused_of, read_answer}
 
 -- Headers: of a known kind, and a length of at most 512
 

@@ -1,10 +1,6 @@
 -- The payload of an answer: two bytes, its class and its number.
 use Rattle.std.specs.Prelude.{ℕ, List, [], ◌∷◌, cond, Option, Some, None, length, get_or, eqb}
-use Rattle.protocol.specs.Numbers.{failure_number, refusal_number}
-use Rattle.protocol.specs.declared.Failure.{Failure}
-use Rattle.protocol.specs.declared.Failure.TheVariants as F
-use Rattle.protocol.specs.declared.Refusal.{Refusal}
-use Rattle.protocol.specs.declared.Refusal.TheVariants as R
+use Rattle.protocol.specs.Numbers.{failure_number, failure_of, refusal_number, refusal_of}
 use Rattle.protocol.specs.declared.Answer.{Answer}
 use Rattle.protocol.specs.declared.Answer.TheVariants.{Taken, Failed, Refused}
 
@@ -13,31 +9,6 @@ abbrev pub answer_octets : Answer → List ℕ
 answer_octets Taken = 0 ∷ 0 ∷ []
 answer_octets (Failed failure) = 1 ∷ failure_number failure ∷ []
 answer_octets (Refused refusal) = 2 ∷ refusal_number refusal ∷ []
-
--- the failure and the refusal of a number; of another number it is one whose own number differs
-unfoldable pub failure_of : ℕ → Failure
-failure_of n =
-    cond (eqb n 16) F.InvalidState
-    (cond (eqb n 17) F.InvalidValue
-    (cond (eqb n 18) F.Timeout
-    (cond (eqb n 33) F.PasskeyEntryFailed
-    (cond (eqb n 35) F.AuthenticationRequirements
-    (cond (eqb n 36) F.ConfirmValueFailed
-    (cond (eqb n 38) F.EncryptionKeySize
-    (cond (eqb n 42) F.InvalidParameters
-    (cond (eqb n 43) F.DHKeyCheckFailed
-    (cond (eqb n 44) F.NumericComparisonFailed
-    F.KeyRejected)))))))))
-
-unfoldable pub refusal_of : ℕ → Refusal
-refusal_of n = cond (eqb n 1) R.Finished (cond (eqb n 2) R.OutboxShort R.PasskeyRange)
-
--- the failure and the refusal with a number, none where no one has it
-abbrev pub numbered_failure : ℕ → Option Failure
-numbered_failure n = cond (eqb (failure_number (failure_of n)) n) (Some (failure_of n)) None
-
-abbrev pub numbered_refusal : ℕ → Option Refusal
-numbered_refusal n = cond (eqb (refusal_number (refusal_of n)) n) (Some (refusal_of n)) None
 
 -- the number of a class, 0 alone, a failure's or a refusal's
 abbrev pub taken_of : ℕ → Option Answer

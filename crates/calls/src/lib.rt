@@ -5,7 +5,7 @@
 ghost use Rattle.std.specs.Prelude.{◌≡◌, Some};
 ghost use Rattle.octets.specs.Write.{Wrote};
 ghost use Rattle.calls.specs.Header.{record_number, numbered_kind, header_octets, read_header};
-ghost use Rattle.calls.specs.Answer.{answer_octets, numbered_failure, numbered_refusal, read_answer};
+ghost use Rattle.calls.specs.Answer.{answer_octets, read_answer};
 
 pub use inputs::{Call, EventCall, put_command, put_event, read_command, read_event};
 use protocol::{Answer, Failure, Refusal};
@@ -101,8 +101,8 @@ pub fn read_answer(payload: &[u8]) -> Option<Answer>
 {
     match payload {
         [0, 0] => Some(Answer::Taken),
-        [1, number] => Some(Answer::Failed(failure_of(*number)?)),
-        [2, number] => Some(Answer::Refused(refusal_of(*number)?)),
+        [1, number] => Some(Answer::Failed(Failure::try_from(*number).ok()?)),
+        [2, number] => Some(Answer::Refused(Refusal::try_from(*number).ok()?)),
         _ => None,
     }
 }
@@ -119,41 +119,7 @@ fn answer_bytes(answer: Answer) -> [u8; 2]
 {
     match answer {
         Answer::Taken => [0, 0],
-        Answer::Failed(failure) => [1, numbers::failure_number(failure)],
-        Answer::Refused(refusal) => [2, numbers::refusal_number(refusal)],
+        Answer::Failed(failure) => [1, u8::from(failure)],
+        Answer::Refused(refusal) => [2, u8::from(refusal)],
     }
-}
-
-// The failure with a number.
-#[tactic(auto, unfolding(crate::specs::Answer::failure_of))]
-fn failure_of(number: u8) -> Option<Failure>
-    ensures { result ≡ numbered_failure number }
-{
-    Some(match number {
-        16 => Failure::InvalidState,
-        17 => Failure::InvalidValue,
-        18 => Failure::Timeout,
-        33 => Failure::PasskeyEntryFailed,
-        35 => Failure::AuthenticationRequirements,
-        36 => Failure::ConfirmValueFailed,
-        38 => Failure::EncryptionKeySize,
-        42 => Failure::InvalidParameters,
-        43 => Failure::DHKeyCheckFailed,
-        44 => Failure::NumericComparisonFailed,
-        47 => Failure::KeyRejected,
-        _ => return None,
-    })
-}
-
-// The refusal with a number.
-#[tactic(auto, unfolding(crate::specs::Answer::refusal_of))]
-fn refusal_of(number: u8) -> Option<Refusal>
-    ensures { result ≡ numbered_refusal number }
-{
-    Some(match number {
-        1 => Refusal::Finished,
-        2 => Refusal::OutboxShort,
-        3 => Refusal::PasskeyRange,
-        _ => return None,
-    })
 }

@@ -16,3 +16,4 @@ pub mod Along
 pub mod Acceptable
 pub mod Samples
 pub mod Marks
+pub mod Unique

@@ -2,6 +2,9 @@
 // gives back. `own` is this side, `peer` the other one. All octet strings are most significant octet first.
 #![tactic(auto)]
 
+ghost use Rattle.std.specs.Prelude.{◌≡◌};
+ghost use Rattle.protocol.specs.Numbers.{failure_number, numbered_failure, refusal_number, numbered_refusal};
+
 use address::Address;
 use features::{IoCapabilities, UseOutOfBand};
 use method::SecurityLevel;
@@ -32,6 +35,10 @@ pub enum Refusal {
     OutboxShort,
     PasskeyRange,
 }
+
+// A number that no failure, or no refusal, has.
+#[derive(Clone, Copy, Debug, PartialEq, Eq)]
+pub struct UnknownNumber(pub u8);
 
 #[derive(Clone, Copy, Debug, PartialEq, Eq)]
 pub enum Answer {
@@ -207,4 +214,78 @@ pub struct Given {
     pub f5: bool,
     pub peercheck: bool,
     pub owncheck: bool,
+}
+
+// Why a pairing failed, as the scope numbers it, and back. From 33 on it is 32 plus the reason of Part H 3.5.5.
+impl From<Failure> for u8 {
+    ghost from_gives = { λ failure number. number ≡ failure_number failure };
+
+    fn from(failure: Failure) -> u8 {
+        match failure {
+            Failure::InvalidState => 16,
+            Failure::InvalidValue => 17,
+            Failure::Timeout => 18,
+            Failure::PasskeyEntryFailed => 33,
+            Failure::AuthenticationRequirements => 35,
+            Failure::ConfirmValueFailed => 36,
+            Failure::EncryptionKeySize => 38,
+            Failure::InvalidParameters => 42,
+            Failure::DHKeyCheckFailed => 43,
+            Failure::NumericComparisonFailed => 44,
+            Failure::KeyRejected => 47,
+        }
+    }
+}
+
+impl TryFrom<u8> for Failure {
+    type Error = UnknownNumber;
+
+    ghost try_from_gives = { λ number failure. failure ≡ numbered_failure number };
+
+    #[tactic(auto, unfolding(crate::specs::Numbers::failure_of))]
+    fn try_from(number: u8) -> Result<Self, UnknownNumber> {
+        match number {
+            16 => Ok(Failure::InvalidState),
+            17 => Ok(Failure::InvalidValue),
+            18 => Ok(Failure::Timeout),
+            33 => Ok(Failure::PasskeyEntryFailed),
+            35 => Ok(Failure::AuthenticationRequirements),
+            36 => Ok(Failure::ConfirmValueFailed),
+            38 => Ok(Failure::EncryptionKeySize),
+            42 => Ok(Failure::InvalidParameters),
+            43 => Ok(Failure::DHKeyCheckFailed),
+            44 => Ok(Failure::NumericComparisonFailed),
+            47 => Ok(Failure::KeyRejected),
+            _ => Err(UnknownNumber(number)),
+        }
+    }
+}
+
+// Why a call was refused, R1 to R3, and back.
+impl From<Refusal> for u8 {
+    ghost from_gives = { λ refusal number. number ≡ refusal_number refusal };
+
+    fn from(refusal: Refusal) -> u8 {
+        match refusal {
+            Refusal::Finished => 1,
+            Refusal::OutboxShort => 2,
+            Refusal::PasskeyRange => 3,
+        }
+    }
+}
+
+impl TryFrom<u8> for Refusal {
+    type Error = UnknownNumber;
+
+    ghost try_from_gives = { λ number refusal. refusal ≡ numbered_refusal number };
+
+    #[tactic(auto, unfolding(crate::specs::Numbers::refusal_of))]
+    fn try_from(number: u8) -> Result<Self, UnknownNumber> {
+        match number {
+            1 => Ok(Refusal::Finished),
+            2 => Ok(Refusal::OutboxShort),
+            3 => Ok(Refusal::PasskeyRange),
+            _ => Err(UnknownNumber(number)),
+        }
+    }
 }

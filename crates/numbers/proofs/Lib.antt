@@ -1,2 +1,0 @@
--- What is shown of `numbers` beside the proofs of its functions, file by file.
-pub mod Unique
