@@ -93,13 +93,12 @@ pub fn put_command(out: &mut [u8], call: Call, cmd: &[u8]) -> usize
     if 356 < n {
         return 0;
     }
-    let mut head = [0u8; 156];
-    place_call(&mut head, call);
+    let head = call_octets(call);
     if out.len() < 156 + n {
         return 0;
     }
-    let _head = octets::put(out, &head);
-    let _cmd = octets::put(&mut out[156..], cmd);
+    octets::put(out, &head);
+    octets::put(&mut out[156..], cmd);
     156 + n
 }
 
@@ -214,8 +213,15 @@ fn event_call(p: &[u8]) -> EventCall
 }
 
 // The outbox's length and the supplied values: the first 156 bytes.
-fn place_call(out: &mut [u8], call: Call)
-    requires { 156 ≤ length out.old }
+fn call_octets(call: Call) -> [u8; 156]
+    ensures { result ≡ join (call_rows call) }
+{
+    let mut octets = [0u8; 156];
+    place_call(&mut octets, call);
+    octets
+}
+
+fn place_call(out: &mut [u8; 156], call: Call)
     ensures { Placed 156 0 (join (call_rows call)) out.old out.new }
 {
     place_drawn(out, call);
@@ -227,8 +233,7 @@ fn place_call(out: &mut [u8], call: Call)
 }
 
 // What comes before the DH key.
-fn place_drawn(out: &mut [u8], call: Call)
-    requires { 156 ≤ length out.old }
+fn place_drawn(out: &mut [u8; 156], call: Call)
     ensures { Placed 24 0 (join (take 5 (call_rows call))) out.old out.new }
 {
     fields::place_array(out, 0, &fields::bytes2(call.outbox));
@@ -239,8 +244,7 @@ fn place_drawn(out: &mut [u8], call: Call)
 }
 
 // The answers of f5 and f6.
-fn place_checks(out: &mut [u8], call: Call)
-    requires { 156 ≤ length out.old }
+fn place_checks(out: &mut [u8; 156], call: Call)
     ensures { Placed 64 92 (join (drop 9 (call_rows call))) out.old out.new }
 {
     fields::place_array(out, 92, &call.supplied.mackey);
@@ -250,11 +254,10 @@ fn place_checks(out: &mut [u8], call: Call)
 }
 
 // All 209 bytes.
-fn place_event(out: &mut [u8], call: EventCall)
-    requires { 209 ≤ length out.old }
+fn place_event(out: &mut [u8; 209], call: EventCall)
     ensures { Placed 209 0 (join (call_rows call.call) ++ join (event_rows call)) out.old out.new }
 {
-    place_call(out, call.call);
+    fields::place_array(out, 0, &call_octets(call.call));
     fields::place_array(out, 156, &event_head(call.came));
     fields::place_array(out, 161, &call.values.ownrandom);
     fields::place_array(out, 177, &call.values.peerrandom);

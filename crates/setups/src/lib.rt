@@ -238,8 +238,7 @@ fn setup_head(call: SetupCall) -> [u8; 11]
 }
 
 // All 153 bytes.
-fn place_setup(out: &mut [u8], call: SetupCall)
-    requires { 153 ≤ length out.old }
+fn place_setup(out: &mut [u8; 153], call: SetupCall)
     ensures { Placed 153 0 (join (setup_rows call)) out.old out.new }
 {
     fields::place_array(out, 0, &setup_head(call));
@@ -247,8 +246,7 @@ fn place_setup(out: &mut [u8], call: SetupCall)
 }
 
 // Our keys and the addresses, and the known bond.
-fn place_box(out: &mut [u8], call: SetupCall)
-    requires { 153 ≤ length out.old }
+fn place_box(out: &mut [u8; 153], call: SetupCall)
     ensures { Placed 142 11 (join (box_rows call)) out.old out.new }
 {
     fields::place_array(out, 11, &call.keyx);
@@ -259,8 +257,7 @@ fn place_box(out: &mut [u8], call: SetupCall)
 }
 
 // The three addresses.
-fn place_addresses(out: &mut [u8], own: Address, identity: Address, peer: Address)
-    requires { 153 ≤ length out.old }
+fn place_addresses(out: &mut [u8; 153], own: Address, identity: Address, peer: Address)
     ensures { Placed 21 91 (address_octets own ++ address_octets identity ++ address_octets peer) out.old out.new }
 {
     place_address(out, 91, own);
@@ -269,8 +266,7 @@ fn place_addresses(out: &mut [u8], own: Address, identity: Address, peer: Addres
 }
 
 // The known bond.
-fn place_bond(out: &mut [u8], there: bool, bond: Bond)
-    requires { 153 ≤ length out.old }
+fn place_bond(out: &mut [u8; 153], there: bool, bond: Bond)
     ensures { Placed 41 112 (join (bond_rows there bond)) out.old out.new }
 {
     fields::place_array(out, 112, &[u8::from(there)]);
@@ -281,7 +277,7 @@ fn place_bond(out: &mut [u8], there: bool, bond: Bond)
 }
 
 // An address: type, then six bytes.
-fn place_address(out: &mut [u8], at: usize, address: Address)
+fn place_address(out: &mut [u8; 153], at: usize, address: Address)
     ensures { Placed 7 at (address_octets address) out.old out.new }
 {
     let o = address.octets;

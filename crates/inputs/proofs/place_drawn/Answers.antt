@@ -1,4 +1,5 @@
 -- `inputs::place_drawn` meets its contract. Assumes nothing.
+use Rattle.std.proofs.Common.{rules}
 use Rattle.inputs.proofs.Rows.{drawn_rows}
 use mathlib.Core.Path.{refl, ap}
 use Rattle.fields.specs.Fields.{little}
@@ -10,7 +11,7 @@ use Rattle.inputs.proofs.place_drawn.Goals as goal
 pub returns : goal.returns
 unfolding little
 returns c =
-    let f = first 156 c.place_array.ensures c.requires in
+    let f = first 156 c.place_array.ensures (search rules) in
     let f = more f c.place_array-2.ensures refl in
     let f = more f c.place_array-3.ensures refl in
     let f = more f c.place_array-4.ensures refl in
