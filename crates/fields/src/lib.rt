@@ -88,7 +88,7 @@ pub fn place(out: &mut [u8], at: usize, src: &[u8])
     if out.len() < at {
         return;
     }
-    let _n = octets::put(&mut out[at..], src);
+    octets::put(&mut out[at..], src);
 }
 
 // Fills r from p's bytes at an offset, where there are enough of them.
@@ -102,5 +102,5 @@ fn fill(r: &mut [u8], p: &[u8], at: usize)
     if p.len() - n < at {
         return;
     }
-    let _n = octets::put(r, &p[at..at + n]);
+    octets::put(r, &p[at..at + n]);
 }

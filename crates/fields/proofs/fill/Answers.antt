@@ -10,4 +10,4 @@ pub returns-then-p-n-2 : goal.returns-then-p-n-2
 returns-then-p-n-2 c = not_filled _ _ _ (omega arith)
 
 pub returns : goal.returns
-returns c = fills _ _ _ _ _ (omega arith) c.put-n.ensures
+returns c = fills _ _ _ _ _ (omega arith) c.put.ensures

@@ -6,4 +6,4 @@ pub returns-then-out-at : goal.returns-then-out-at
 returns-then-out-at c = not_placed _ _ _ c.if-out-at.true
 
 pub returns : goal.returns
-returns c = places _ _ _ _ _ c.if-out-at.false c.put-n.ensures
+returns c = places _ _ _ _ _ c.if-out-at.false c.put.ensures
