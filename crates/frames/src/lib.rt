@@ -24,7 +24,8 @@ ghost use Rattle.octets.specs.Octets.{flip};
 use address::Address;
 use features::PairingFeatures;
 
-// The codes of the commands (Part H 3.3).
+// The codes of the commands (Part H 3.3). They are numbers and no enum: a code that comes may be any octet, and one that isn't awaited fails
+// whether or not Part H names it.
 pub const PAIRING_REQUEST: u8 = 0x01;
 
 pub const PAIRING_RESPONSE: u8 = 0x02;
@@ -55,7 +56,8 @@ pub fn pairing_response(out: &mut [u8], features: PairingFeatures) -> usize
     11
 }
 
-// Pairing Confirm.
+// Pairing Confirm. This one and the three others of one value are a line each over `value_frame`: a function for each packet of Part H, so that
+// none takes a code.
 pub fn confirm(out: &mut [u8], value: [u8; 16]) -> usize
     ensures { Wrote (framed channel (pairing_confirm value ∷ [])) out.old result out.new }
 {

@@ -99,7 +99,7 @@ impl PairingMethod {
     }
 }
 
-// The method for Secure Connections.
+// The method for Secure Connections. The two choosers are the Rust crate's, by their names, over one that takes the kind.
 pub fn choose_pairing_method(central: PairingFeatures, peripheral: PairingFeatures) -> PairingMethod
     ensures { result ≡ method_of Kind.SecureConnections central peripheral }
 {

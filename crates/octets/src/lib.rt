@@ -1,5 +1,6 @@
 // Octet strings: turned round between the order on the air and ours, written into lent slices, and compared. Nothing here knows of
-// Bluetooth. Where a slice is too short or a value has another length, the answer says so and nothing is written.
+// Bluetooth. Where a slice is too short or a value has another length, the answer says so and nothing is written. A writer gives a count and
+// no Option: counts add up to what stands in an outbox (`Wrote`), and of what doesn't fit they count 0.
 #![tactic(auto)]
 
 ghost use Rattle.std.specs.Prelude.{◌≡◌, length};

@@ -5,8 +5,7 @@
 use address::{Address, AddressKind};
 use features::{IoCapabilities, UseOutOfBand};
 use machine::Phase;
-use method::SecurityLevel;
-use protocol::{Bond, Configured, Event, MaybeBond, OobData, Setup, Supplied};
+use protocol::{Event, OobData, Setup, Supplied};
 use responder::Responder;
 use std::io;
 use std::io::Read;
@@ -71,7 +70,7 @@ fn encrypted(agreed: Responder, came: Event, out: &mut [u8]) -> Responder {
     let checked = agreed
         .command(&value(frames::DHKEY_CHECK), supplied(), out)
         .responder;
-    checked.event(came, values(), supplied(), out).responder
+    checked.event(came, supplied(), out).responder
 }
 
 // The responder after the peer's identity information and its identity address.
@@ -83,12 +82,7 @@ fn identified(encrypted: Responder, out: &mut [u8]) -> Responder {
 }
 
 fn succeeded(responder: Responder) -> bool {
-    let state = responder.state;
-    let phase = state.phase;
-    match phase {
-        Phase::Success => true,
-        _ => false,
-    }
+    matches!(responder.state.phase, Phase::Success)
 }
 
 // The event that an octet stands for: zero, that the link is encrypted. The compiler can't know which it is, so it keeps the step for each.
@@ -97,7 +91,7 @@ fn event(octet: u8) -> Event {
         0 => Event::LinkEncryptedResult(true),
         1 => Event::PassKeyConfirm,
         2 => Event::PassKeyCancel,
-        3 => Event::OobDataReceived,
+        3 => Event::OobDataReceived(values()),
         _ => Event::PassKeyInput(octet as u32),
     }
 }
@@ -160,21 +154,13 @@ fn setup(passkey: u32) -> Setup {
         io: IoCapabilities::DisplayOnly,
         oob: UseOutOfBand::NotPresent,
         bonding: true,
-        passkey: Configured::Passkey(passkey),
+        passkey: Some(passkey),
         keyx: [1u8; 32],
         keyy: [2u8; 32],
         irk: [3u8; 16],
         own: address(),
         identity: address(),
         peer: address(),
-        known: MaybeBond {
-            there: false,
-            bond: Bond {
-                ltk: [0u8; 16],
-                level: SecurityLevel::NoEncryption,
-                address: address(),
-                irk: [0u8; 16],
-            },
-        },
+        known: None,
     }
 }

@@ -30,7 +30,7 @@ pub fn value(awaited: u8, wrong: Failure, code: u8, payload: &[u8]) -> Result<[u
     Err(wrong)
 }
 
-// Pairing Confirm of a round.
+// Pairing Confirm of a round. This one and the next are the value of one code each, so that a step and its query can't take another.
 pub fn confirm(code: u8, payload: &[u8]) -> Result<[u8; 16], Failure>
     ensures { result ≡ verdict_of (eqb code confirm_code) (is_value payload.now) Failure.InvalidParameters (flip payload.now) }
 {

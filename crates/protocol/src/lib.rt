@@ -40,6 +40,7 @@ pub enum Refusal {
 #[derive(Clone, Copy, Debug, PartialEq, Eq)]
 pub struct UnknownNumber(pub u8);
 
+// What a call is answered. Three cases, where a Result in a Result would say the same less plainly.
 #[derive(Clone, Copy, Debug, PartialEq, Eq)]
 pub enum Answer {
     Taken,
@@ -124,7 +125,8 @@ pub struct Secrets {
     pub held: [u8; 16],
 }
 
-// What a call is handed from outside: drawn values, and the answers to the questions that the step announces.
+// What a call is handed from outside: drawn values, and the answers to the questions that the step announces. `dhkey` stands beside `dhvalid`
+// and not in an Option: a record has its bytes either way (`put_read_command`, inputs/proofs/Return.antt).
 #[derive(Clone, Copy)]
 pub struct Supplied {
     pub nonce: [u8; 16],
@@ -204,7 +206,8 @@ pub enum QuestionKind {
     OwnCheck,
 }
 
-// Which answers have been given so far, by the question.
+// Which answers have been given so far, by the question. They stand beside the answers and not in them as Options: a step takes every value,
+// given or not (`step`, protocol/specs/Role.antt), and so does a record (docs/CALLS.md).
 #[derive(Clone, Copy)]
 pub struct Given {
     pub dh: bool,
