@@ -7,7 +7,6 @@ use Rattle.fields.proofs.half.Reads as half
 use Rattle.fields.proofs.word.Reads as word
 use Rattle.fields.proofs.array.Reads as array
 use Rattle.fields.proofs.within.Reads as within
-use Rattle.fields.proofs.flag.Reads as flag
 use Rattle.fields.proofs.bytes4.Reads as bytes4
 use Rattle.fields.proofs.bytes2.Reads as bytes2
 use Rattle.fields.proofs.place_array.Reads as place_array
@@ -27,9 +26,6 @@ array_unique N f κs a z z' e e' p q = only p q
 
 pub within_unique : Unique within.Post
 within_unique κs a z z' e e' p q = only p q
-
-pub flag_unique : Unique flag.Post
-flag_unique κs a z z' e e' p q = only p.0 q.0
 
 pub bytes4_unique : Unique bytes4.Post
 bytes4_unique κs a z z' e e' p q = only p q

@@ -2,8 +2,8 @@
 // a field does, zeros are read; where a buffer does, nothing is written.
 #![tactic(auto)]
 
-ghost use Rattle.std.specs.Prelude.{◌≡◌, ◌&&◌, ◌≤◌, get_or};
-ghost use Rattle.fields.specs.Fields.{little, number_at, filled, field, flag_number, at_most, placed, Placed};
+ghost use Rattle.std.specs.Prelude.{◌≡◌, get_or};
+ghost use Rattle.fields.specs.Fields.{little, number_at, filled, field, at_most, placed, Placed};
 
 // The byte at an offset.
 pub fn byte(p: &[u8], at: usize) -> u8
@@ -51,13 +51,6 @@ pub fn within(p: &[u8], at: usize, limit: u8) -> bool
     ensures { result ≡ at_most at limit p.now }
 {
     byte(p, at) <= limit
-}
-
-// A yes-or-no byte.
-pub fn flag(on: bool) -> u8
-    ensures { (result ≡ flag_number on) × (result ≤ 1) }
-{
-    u8::from(on)
 }
 
 // The four bytes of a number.

@@ -1,7 +1,7 @@
 -- The words of docs/CALLS.md for what a line shows.
-use Rattle.std.specs.Prelude.{ℕ, ◌-◌, List, [], ◌∷◌, ◌++◌, replicate}
+use Rattle.std.specs.Prelude.{ℕ, List, [], ◌∷◌}
 use Prim.Native.Char.{code}
-use Prim.Native.String.{String, count, [] as none, ◌∷◌ as ◌then◌}
+use Prim.Native.String.{String, [] as none, ◌∷◌ as ◌then◌}
 use Rattle.protocol.specs.declared.ConnectionEvent.{ConnectionEvent}
 use Rattle.protocol.specs.declared.ConnectionEvent.TheVariants as E
 use Rattle.protocol.specs.declared.Failure.{Failure}
