@@ -5,7 +5,7 @@ ghost use Rattle.walk.specs.Frames.{frame_end};
 use crate::text::{Hex, OrDash};
 use address::Address;
 use method::SecurityLevel;
-use protocol::{Action, Answer, Bond, ConnectionEvent, Question};
+use protocol::{Action, Answer, Bond, Check, ConnectionEvent, Question};
 use std::fmt;
 
 // What stands behind `answer=`.
@@ -190,17 +190,27 @@ impl fmt::Display for Asked {
                 At(a1),
                 At(a2)
             ),
-            Question::PeerCheck(of) | Question::OwnCheck(of) => write!(
-                f,
-                ":{}:{}:{}:{}:{}:{}:{}",
-                Hex(&of.w),
-                Hex(&of.n1),
-                Hex(&of.n2),
-                Hex(&of.r),
-                Hex(&of.iocap),
-                At(of.a1),
-                At(of.a2)
-            ),
+            Question::PeerCheck(of) | Question::OwnCheck(of) => write!(f, "{}", CheckValue(of)),
         }
+    }
+}
+
+// f6's arguments.
+#[derive(Clone, Copy)]
+struct CheckValue(Check);
+
+impl fmt::Display for CheckValue {
+    fn fmt<W: fmt::Write>(&self, f: &mut fmt::Formatter<W>) -> fmt::Result {
+        write!(
+            f,
+            ":{}:{}:{}:{}:{}:{}:{}",
+            Hex(&self.0.w),
+            Hex(&self.0.n1),
+            Hex(&self.0.n2),
+            Hex(&self.0.r),
+            Hex(&self.0.iocap),
+            At(self.0.a1),
+            At(self.0.a2)
+        )
     }
 }
