@@ -7,114 +7,89 @@ ghost use Rattle.octets.specs.Octets.{all_zero};
 ghost use Rattle.features.specs.Bits.{identity_bit};
 ghost use Rattle.protocol.specs.declared.Supplied.{Supplied};
 ghost use Rattle.protocol.specs.Plan.{ends};
-ghost use Rattle.protocol.specs.Parts.{accept_of, accepting};
+ghost use Rattle.protocol.specs.Parts.{accept_of};
 ghost use Rattle.machine.specs.Request.{interactive, own_features, lost, responding, on_request};
 ghost use Rattle.machine.specs.Responder.{Follows};
 
 use features::{IoCapabilities, PairingFeatures};
 use machine::{Phase, Progress, State, Step};
-use protocol::{Acceptance, Answer, ConnectionEvent, Failure, Setup};
+use protocol::{Answer, ConnectionEvent, Failure, Setup};
 
 // The tests of a request, in their order: six octets that say features, Secure Connections, a key size of at least 16.
-pub fn accept(payload: &[u8]) -> Acceptance
+#[tactic(auto, unfolding(protocol::specs::Parts::accept_of))]
+pub fn accept(payload: &[u8]) -> Result<PairingFeatures, Failure>
     ensures { result ≡ accept_of payload.now }
 {
-    let decoded = features::decode(payload);
-    match decoded {
-        None => Acceptance::Rejected(Failure::InvalidParameters),
-        Some(peer) => {
-            if peer.secure_connection() {
-                if peer.keysize < 16 {
-                    return Acceptance::Rejected(Failure::EncryptionKeySize);
-                }
-                return Acceptance::Accepted(peer);
-            }
-            Acceptance::Rejected(Failure::AuthenticationRequirements)
-        }
+    let peer = features::decode(payload).ok_or(Failure::InvalidParameters)?;
+    if !peer.secure_connection() {
+        return Err(Failure::AuthenticationRequirements);
     }
+    if peer.keysize < 16 {
+        return Err(Failure::EncryptionKeySize);
+    }
+    Ok(peer)
 }
 
 // What we say of ourselves to a peer. Its identity bits set ours, the responder's only if we have an IRK.
+#[tactic(auto, unfolding(machine::specs::Request::own_features))]
 pub fn own_features(setup: Setup, peer: PairingFeatures) -> PairingFeatures
     ensures { result ≡ own_features setup peer }
 {
-    let io = setup.io;
-    let oob = setup.oob;
-    let irk = setup.irk;
     PairingFeatures {
-        io,
-        oob,
-        authreq: features::auth_req(setup.bonding, interactive_io(io)),
+        io: setup.io,
+        oob: setup.oob,
+        authreq: features::auth_req(setup.bonding, interactive_io(setup.io)),
         keysize: 16,
         initiator: identity_octet(features::identity_key(peer.initiator)),
-        responder: identity_octet(distributes(peer.responder, irk)),
+        responder: identity_octet(distributes(peer.responder, setup.irk)),
     }
 }
 
-// A command in WaitingPairingRequest.
+// A command in WaitingPairingRequest. A known bond is lost either way.
 pub fn request(state: State, code: u8, payload: &[u8], out: &mut [u8]) -> Step
     ensures { (a : Supplied) → Follows state a (on_request state code payload.now) result out.old out.new }
 {
     if code != frames::PAIRING_REQUEST {
         return states::failed(state, Failure::InvalidState);
     }
-    answer(state, accept(payload), out)
-}
-
-// The request is answered with our features; a known bond is lost either way.
-fn answer(state: State, acceptance: Acceptance, out: &mut [u8]) -> Step
-    ensures { (a : Supplied) → Follows state a (accepting (lost state) acceptance λ f. ends (responding state f)) result out.old out.new }
-{
-    match acceptance {
-        Acceptance::Rejected(failure) => states::failed_after(state, lost_bond(state), failure),
-        Acceptance::Accepted(peer) => {
-            let setup = state.setup;
-            let own = own_features(setup, peer);
-            let sent = frames::pairing_response(out, own);
-            let secrets = state.secrets;
-            let bond = state.bond;
-            let address = state.peer;
-            Step {
-                progress: Progress {
-                    phase: Phase::WaitingPublicKey,
-                    features: peer,
-                    method: method::choose_pairing_method(peer, own),
-                    secrets,
-                    bond,
-                    peer: address,
-                },
-                sent,
-                first: lost_bond(state),
-                second: ConnectionEvent::Nothing,
-                action: states::no_action(),
-                answer: Answer::Taken,
-            }
-        }
+    match accept(payload) {
+        Err(failure) => states::failed_after(state, lost_bond(state), failure),
+        Ok(peer) => answer(state, peer, out),
     }
 }
 
-fn lost_bond(state: State) -> ConnectionEvent
+// Acceptable features are answered with ours.
+fn answer(state: State, peer: PairingFeatures, out: &mut [u8]) -> Step
+    ensures { (a : Supplied) → Follows state a (ends (responding state peer)) result out.old out.new }
+{
+    let own = own_features(state.setup, peer);
+    let sent = frames::pairing_response(out, own);
+    let progress = Progress {
+        features: peer,
+        method: method::choose_pairing_method(peer, own),
+        ..states::at(state, Phase::WaitingPublicKey)
+    };
+    Step {
+        progress,
+        sent,
+        first: lost_bond(state),
+        second: None,
+        action: None,
+        answer: Answer::Taken,
+    }
+}
+
+fn lost_bond(state: State) -> Option<ConnectionEvent>
     ensures { result ≡ lost state }
 {
-    let setup = state.setup;
-    let known = setup.known;
-    if known.there {
-        return ConnectionEvent::BondLost;
-    }
-    ConnectionEvent::Nothing
+    state.setup.known.map(|_bond| ConnectionEvent::BondLost)
 }
 
 // Whether we can show or take anything.
 pub fn interactive_io(io: IoCapabilities) -> bool
     ensures { result ≡ interactive io }
 {
-    match io {
-        IoCapabilities::DisplayOnly => true,
-        IoCapabilities::DisplayYesNo => true,
-        IoCapabilities::KeyboardOnly => true,
-        IoCapabilities::NoInputNoOutput => false,
-        IoCapabilities::KeyboardDisplay => true,
-    }
+    io != IoCapabilities::NoInputNoOutput
 }
 
 // A key distribution octet of ours: the identity bit, or nothing.
@@ -128,8 +103,5 @@ fn identity_octet(set: bool) -> u8
 fn distributes(responder: u8, irk: [u8; 16]) -> bool
     ensures { result ≡ (identity_bit responder && not (all_zero irk)) }
 {
-    if features::identity_key(responder) {
-        return !octets::all_zero16(irk);
-    }
-    false
+    features::identity_key(responder) && !octets::all_zero16(irk)
 }
