@@ -7,9 +7,9 @@ use Rattle.machine.specs.declared.State.{State}
 use Rattle.protocol.specs.Plan.{unlisted}
 use Rattle.machine.specs.Oob.{on_oob_data}
 
-pub oob_other : (m : State) (x : Event) (o : OobData) → (x ≡ I.OobDataReceived → ⊥) → on_oob_data m x o ≡ unlisted
-oob_other m (I.LinkEncryptedResult ok) o n = refl
-oob_other m I.PassKeyConfirm o n = refl
-oob_other m I.PassKeyCancel o n = refl
-oob_other m (I.PassKeyInput p) o n = refl
-oob_other m I.OobDataReceived o n = absurd (n refl)
+pub oob_other : (m : State) (x : Event) → ((o : OobData) → x ≡ I.OobDataReceived o → ⊥) → on_oob_data m x ≡ unlisted
+oob_other m (I.LinkEncryptedResult ok) n = refl
+oob_other m I.PassKeyConfirm n = refl
+oob_other m I.PassKeyCancel n = refl
+oob_other m (I.PassKeyInput p) n = refl
+oob_other m (I.OobDataReceived o) n = absurd (n o refl)

@@ -5,20 +5,19 @@ ghost use Rattle.std.specs.Prelude.{◌≡◌, cond};
 ghost use Rattle.octets.specs.Octets.{zeros};
 ghost use Rattle.method.specs.Method.{set};
 ghost use Rattle.protocol.specs.Plan.{ends};
-ghost use Rattle.protocol.specs.Exchanged.{set_nonces};
 ghost use Rattle.machine.specs.Oob.{absent, received, receiving, on_oob_data, answering, on_oob_random};
 ghost use Rattle.machine.specs.Responder.{Follows, Quiet};
 
 use features::UseOutOfBand;
 use machine::{Phase, State, Step};
-use protocol::{ConnectionEvent, Event, Failure, OobData, Secrets, Supplied, Verdict};
+use protocol::{Event, Failure, OobData, Secrets, Supplied};
 
-// An event in WaitingOobData: the data.
-pub fn oob_event(state: State, event: Event, values: OobData, supplied: Supplied) -> Step
-    ensures { Quiet state supplied (on_oob_data state event values) result }
+// An event in WaitingOobData: the values.
+pub fn oob_event(state: State, event: Event, supplied: Supplied) -> Step
+    ensures { Quiet state supplied (on_oob_data state event) result }
 {
     match event {
-        Event::OobDataReceived => receive(state, values, supplied),
+        Event::OobDataReceived(values) => receive(state, values, supplied),
         _ => states::failed(state, Failure::InvalidState),
     }
 }
@@ -33,10 +32,9 @@ pub fn oob_random(
 ) -> Step
     ensures { Follows state supplied (on_oob_random state code payload.now) result out.old out.new }
 {
-    let verdict = payloads::value(frames::PAIRING_RANDOM, Failure::InvalidValue, code, payload);
-    match verdict {
-        Verdict::Wrong(failure) => states::failed(state, failure),
-        Verdict::Awaited => answer_nonce(state, octets::reversed(payload), supplied, out),
+    match payloads::value(frames::PAIRING_RANDOM, Failure::InvalidValue, code, payload) {
+        Ok(nonce) => answer_nonce(state, nonce, supplied, out),
+        Err(failure) => states::failed(state, failure),
     }
 }
 
@@ -46,35 +44,19 @@ fn answer_nonce(state: State, nonce: [u8; 16], supplied: Supplied, out: &mut [u8
 {
     let own_nonce = supplied.nonce;
     let sent = frames::random(out, own_nonce);
-    let secrets = state.secrets;
-    states::goes(
-        state,
-        Phase::WaitingDHKeyEa,
-        with_nonces(secrets, nonce, own_nonce),
-        sent,
-        ConnectionEvent::Nothing,
-    )
-}
-
-fn with_nonces(secrets: Secrets, peer: [u8; 16], own: [u8; 16]) -> Secrets
-    ensures { result ≡ set_nonces secrets peer own }
-{
-    let mut drawn = secrets;
-    drawn.peernonce = peer;
-    drawn.ownnonce = own;
-    drawn
+    let secrets = Secrets {
+        peernonce: nonce,
+        ownnonce: own_nonce,
+        ..state.secrets
+    };
+    states::goes(state, Phase::WaitingDHKeyEa, secrets, sent, None)
 }
 
 // The data is here: where there is any of the peer's, its confirm must be the right one.
 fn receive(state: State, values: OobData, supplied: Supplied) -> Step
     ensures { Quiet state supplied (receiving state values) result }
 {
-    if absent(values) {
-        return received(state, values);
-    }
-    let confirm = values.peerconfirm;
-    let right = supplied.peerconfirm;
-    if octets::equal(&confirm, &right) {
+    if absent(values) || octets::equal(&values.peerconfirm, &supplied.peerconfirm) {
         return received(state, values);
     }
     states::failed(state, Failure::ConfirmValueFailed)
@@ -84,40 +66,29 @@ fn receive(state: State, values: OobData, supplied: Supplied) -> Step
 pub fn absent(values: OobData) -> bool
     ensures { result ≡ absent values }
 {
-    let random = values.peerrandom;
-    let confirm = values.peerconfirm;
-    if octets::all_zero16(random) {
-        return octets::all_zero16(confirm);
-    }
-    false
+    octets::all_zero16(values.peerrandom) && octets::all_zero16(values.peerconfirm)
 }
 
-// The peer's random is its secret. Ours counts only where the peer has our data.
+// The peer's random is its secret. Ours counts only where the peer has our values.
 fn received(state: State, values: OobData) -> Step
     ensures { (a : Supplied) → Quiet state a (ends (received state values)) result }
 {
-    let features = state.features;
-    let oob = features.oob;
     let peer_random = values.peerrandom;
-    let own_random = values.ownrandom;
-    let mut secrets = state.secrets;
-    let own = own_secret(oob, own_random);
-    secrets.peersecret = peer_random;
-    secrets.ownsecret = own;
-    states::goes(
-        state,
-        Phase::WaitingOobRandom,
-        secrets,
-        0,
-        ConnectionEvent::Nothing,
-    )
+    let own = own_secret(state.features.oob, values.ownrandom);
+    let secrets = Secrets {
+        peersecret: peer_random,
+        ownsecret: own,
+        ..state.secrets
+    };
+    states::goes(state, Phase::WaitingOobRandom, secrets, 0, None)
 }
 
+#[tactic(auto, unfolding(octets::specs::Octets::zeros))]
 fn own_secret(oob: UseOutOfBand, random: [u8; 16]) -> [u8; 16]
     ensures { result ≡ cond (set oob) random (zeros 16) }
 {
     match oob {
-        UseOutOfBand::NotPresent => [0u8; 16],
+        UseOutOfBand::NotPresent => [0; 16],
         UseOutOfBand::Present => random,
     }
 }

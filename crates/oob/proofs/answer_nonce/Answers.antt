@@ -3,4 +3,4 @@ use Rattle.protocol.proofs.Follows.{moving, drawing}
 use Rattle.oob.proofs.answer_nonce.Goals as goal
 
 pub returns : goal.returns
-returns c = drawing (rw (← c.with_nonces.ensures) (moving c.goes.ensures c.random-sent.ensures))
+returns c = drawing (moving c.goes.ensures c.random-sent.ensures)

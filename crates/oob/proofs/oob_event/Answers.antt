@@ -7,4 +7,4 @@ pub returns-in-OobDataReceived : goal.returns-in-OobDataReceived
 returns-in-OobDataReceived c = rw c.in-OobDataReceived.is c.receive.ensures
 
 pub returns-in_default : goal.returns-in_default
-returns-in_default c = rw (oob_other _ _ _ c.in_default.not-OobDataReceived) (λ out. failing c.failed.ensures)
+returns-in_default c = rw (oob_other _ _ c.in_default.not-OobDataReceived) (λ out. failing c.failed.ensures)
