@@ -1,14 +1,13 @@
 -- `exchange::public_key` meets its contract. Assumes nothing.
 use mathlib.Core.Path.{◌∙◌}
-use Rattle.protocol.proofs.Follows.{wrong, awaited, read_x}
+use Rattle.protocol.proofs.Follows.{wrong, awaited, awaited_size, read_x}
 use Rattle.exchange.proofs.public_key.Goals as goal
 
-pub returns-in-Wrong : goal.returns-in-Wrong
-returns-in-Wrong c = wrong c.public_key-verdict.ensures c.in-Wrong.is c.failed.ensures
+pub returns-in-Ok : goal.returns-in-Ok
+returns-in-Ok c =
+    let verdict = c.public_key.ensures in
+    let told = c.in-Ok.is in
+    awaited _ verdict told (rw (← (c.peer_x.ensures ∙ read_x c.args.payload.now (awaited_size _ _ _ _ verdict told))) (c.keyed.ensures _))
 
-pub returns-in-Awaited : goal.returns-in-Awaited
-returns-in-Awaited c =
-    let verdict = c.public_key-verdict.ensures in
-    let told = c.in-Awaited.is in
-    let body = c.args.payload.now in
-    awaited verdict told (rw (← (c.peer_x.ensures ∙ read_x _ body _ verdict told)) (c.keyed.ensures _))
+pub returns-in-Err : goal.returns-in-Err
+returns-in-Err c = wrong _ c.public_key.ensures c.in-Err.is c.failed.ensures

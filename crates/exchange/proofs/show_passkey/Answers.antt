@@ -2,4 +2,4 @@
 use Rattle.exchange.proofs.show_passkey.Goals as goal
 
 pub returns : goal.returns
-returns c = rw (← c.with_passkey-keyed.ensures) c.send_key.ensures
+returns c = rw (← c.with_passkey.ensures) c.send_key.ensures
