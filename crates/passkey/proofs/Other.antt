@@ -13,4 +13,4 @@ typing_other m held (I.LinkEncryptedResult ok) n1 n2 = refl
 typing_other m held I.PassKeyConfirm n1 n2 = refl
 typing_other m held I.PassKeyCancel n1 n2 = absurd (n1 refl)
 typing_other m held (I.PassKeyInput p) n1 n2 = absurd (n2 p refl)
-typing_other m held I.OobDataReceived n1 n2 = refl
+typing_other m held (I.OobDataReceived o) n1 n2 = refl

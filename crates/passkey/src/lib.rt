@@ -8,7 +8,7 @@ ghost use Rattle.machine.specs.Passkey.{confirming, typed, on_typing, on_confirm
 ghost use Rattle.machine.specs.Responder.{Follows};
 
 use machine::{Phase, State, Step};
-use protocol::{ConnectionEvent, Event, Failure, Secrets, Supplied, Verdict};
+use protocol::{Event, Failure, Secrets, Supplied};
 
 // An event in WaitingPassKeyInput: the passkey, or the user's no.
 pub fn typing_event(
@@ -38,20 +38,9 @@ pub fn confirm(
 ) -> Step
     ensures { Follows state supplied (on_confirm state round code payload.now) result out.old out.new }
 {
-    let verdict = payloads::confirm(code, payload);
-    match verdict {
-        Verdict::Wrong(failure) => states::failed(state, failure),
-        Verdict::Awaited => {
-            let secrets = state.secrets;
-            confirm_round(
-                state,
-                secrets,
-                round,
-                octets::reversed(payload),
-                supplied,
-                out,
-            )
-        }
+    match payloads::confirm(code, payload) {
+        Ok(value) => confirm_round(state, state.secrets, round, value, supplied, out),
+        Err(failure) => states::failed(state, failure),
     }
 }
 
@@ -66,10 +55,9 @@ pub fn random(
 ) -> Step
     ensures { Follows state supplied (on_random state round code payload.now) result out.old out.new }
 {
-    let verdict = payloads::random(code, payload);
-    match verdict {
-        Verdict::Wrong(failure) => states::failed(state, failure),
-        Verdict::Awaited => test_round(state, round, octets::reversed(payload), supplied, out),
+    match payloads::random(code, payload) {
+        Ok(nonce) => test_round(state, round, nonce, supplied, out),
+        Err(failure) => states::failed(state, failure),
     }
 }
 
@@ -78,17 +66,12 @@ fn test_round(state: State, round: u8, nonce: [u8; 16], supplied: Supplied, out:
     ensures { Follows state supplied (testing state round nonce) result out.old out.new }
 {
     if confirmed(state, supplied) {
-        let mut secrets = state.secrets;
-        let own_nonce = secrets.ownnonce;
-        let sent = frames::random(out, own_nonce);
-        secrets.peernonce = nonce;
-        return states::goes(
-            state,
-            following_phase(round),
-            secrets,
-            sent,
-            ConnectionEvent::Nothing,
-        );
+        let sent = frames::random(out, state.secrets.ownnonce);
+        let secrets = Secrets {
+            peernonce: nonce,
+            ..state.secrets
+        };
+        return states::goes(state, following_phase(round), secrets, sent, None);
     }
     states::failed(state, Failure::ConfirmValueFailed)
 }
@@ -97,29 +80,18 @@ fn test_round(state: State, round: u8, nonce: [u8; 16], supplied: Supplied, out:
 fn confirmed(state: State, supplied: Supplied) -> bool
     ensures { result ≡ same state.secrets.confirm supplied.peerconfirm }
 {
-    let secrets = state.secrets;
-    let confirm = secrets.confirm;
-    let right = supplied.peerconfirm;
-    octets::equal(&confirm, &right)
+    octets::equal(&state.secrets.confirm, &supplied.peerconfirm)
 }
 
 // The passkey was typed: it becomes both secrets, and a held confirm is round 0's.
 fn typed(state: State, held: bool, passkey: u32, supplied: Supplied, out: &mut [u8]) -> Step
     ensures { Follows state supplied (typed state held passkey) result out.old out.new }
 {
-    let secrets = state.secrets;
-    let early = secrets.held;
-    let keyed = states::with_passkey(secrets, passkey);
+    let keyed = states::with_passkey(state.secrets, passkey);
     if held {
-        return confirm_round(state, keyed, 0, early, supplied, out);
+        return confirm_round(state, keyed, 0, state.secrets.held, supplied, out);
     }
-    states::goes(
-        state,
-        Phase::WaitingPassKeyEntryConfirm(0),
-        keyed,
-        0,
-        ConnectionEvent::Nothing,
-    )
+    states::goes(state, Phase::WaitingPassKeyEntryConfirm(0), keyed, 0, None)
 }
 
 // A round's confirm is kept, our nonce is drawn for it, and our confirm goes out.
@@ -133,18 +105,19 @@ fn confirm_round(
 ) -> Step
     ensures { Follows state supplied (confirming state secrets round value) result out.old out.new }
 {
-    let own_confirm = supplied.ownconfirm;
     let nonce = supplied.nonce;
-    let sent = frames::confirm(out, own_confirm);
-    let mut kept = secrets;
-    kept.confirm = value;
-    kept.ownnonce = nonce;
+    let sent = frames::confirm(out, supplied.ownconfirm);
+    let kept = Secrets {
+        confirm: value,
+        ownnonce: nonce,
+        ..secrets
+    };
     states::goes(
         state,
         Phase::WaitingPassKeyEntryRandom(round),
         kept,
         sent,
-        ConnectionEvent::Nothing,
+        None,
     )
 }
 
@@ -152,8 +125,7 @@ fn confirm_round(
 fn following_phase(round: u8) -> Phase
     ensures { result ≡ waits (after_of round) }
 {
-    let following = rounds::after(round);
-    match following {
+    match rounds::after(round) {
         Some(next) => Phase::WaitingPassKeyEntryConfirm(next),
         None => Phase::WaitingDHKeyEa,
     }
