@@ -5,8 +5,8 @@ ghost use Rattle.std.specs.Prelude.{◌≡◌, true};
 ghost use Rattle.machine.specs.Dhkey.{new_bond, checking, on_check};
 ghost use Rattle.machine.specs.Responder.{Follows};
 
-use machine::{Phase, State, Step};
-use protocol::{Action, ActionKind, Answer, Bond, ConnectionEvent, Failure, MaybeBond, Supplied};
+use machine::{Phase, Progress, State, Step};
+use protocol::{Action, Answer, Bond, Failure, Supplied};
 
 // A command in WaitingDHKeyEa. Any wrong length fails as a wrong check does.
 pub fn check(state: State, code: u8, payload: &[u8], supplied: Supplied, out: &mut [u8]) -> Step
@@ -25,24 +25,19 @@ pub fn check(state: State, code: u8, payload: &[u8], supplied: Supplied, out: &m
 pub fn check_value(state: State, value: [u8; 16], supplied: Supplied, out: &mut [u8]) -> Step
     ensures { Follows state supplied (checking state true value) result out.old out.new }
 {
-    let right = supplied.peercheck;
-    if octets::equal(&value, &right) {
-        let own_check = supplied.owncheck;
-        let ltk = supplied.ltk;
-        let sent = frames::dhkey_check(out, own_check);
-        let bond = new_bond(state, ltk);
-        let mut next = states::at(state, Phase::WaitingLinkEncrypted);
-        let kept = MaybeBond { there: true, bond };
-        next.bond = kept;
+    if octets::equal(&value, &supplied.peercheck) {
+        let sent = frames::dhkey_check(out, supplied.owncheck);
+        let bond = new_bond(state, supplied.ltk);
+        let progress = Progress {
+            bond: Some(bond),
+            ..states::at(state, Phase::WaitingLinkEncrypted)
+        };
         return Step {
-            progress: next,
+            progress,
             sent,
-            first: ConnectionEvent::Nothing,
-            second: ConnectionEvent::Nothing,
-            action: Action {
-                kind: ActionKind::EnableEncryption,
-                bond,
-            },
+            first: None,
+            second: None,
+            action: Some(Action::EnableEncryption(bond)),
             answer: Answer::Taken,
         };
     }
@@ -50,15 +45,14 @@ pub fn check_value(state: State, value: [u8; 16], supplied: Supplied, out: &mut 
 }
 
 // The bond of this pairing: link key, the method's level, the peer's address, no IRK yet.
+#[tactic(auto, unfolding(octets::specs::Octets::zeros))]
 fn new_bond(state: State, ltk: [u8; 16]) -> Bond
     ensures { result ≡ new_bond state ltk }
 {
-    let method = state.method;
-    let address = state.peer;
     Bond {
         ltk,
-        level: method.security_level(),
-        address,
-        irk: [0u8; 16],
+        level: state.method.security_level(),
+        address: state.peer,
+        irk: [0; 16],
     }
 }

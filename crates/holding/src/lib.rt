@@ -8,7 +8,7 @@ ghost use Rattle.machine.specs.Numeric.{on_early_check};
 ghost use Rattle.machine.specs.Responder.{Quiet};
 
 use machine::{Phase, State, Step};
-use protocol::{ConnectionEvent, Failure};
+use protocol::{Failure, Secrets};
 
 // A command in WaitingPassKeyInput: one early confirm is held.
 pub fn confirm(state: State, held: bool, code: u8, payload: &[u8]) -> Step
@@ -42,17 +42,16 @@ pub fn check(state: State, held: bool, code: u8, payload: &[u8]) -> Step
 fn holds(state: State, held: bool, awaited: u8, code: u8, payload: &[u8], phase: Phase) -> Step
     ensures { (a : Supplied) → Quiet state a (holds state held awaited code payload.now phase) result }
 {
-    if code != awaited {
-        return states::failed(state, Failure::InvalidState);
-    }
-    if held {
+    if code != awaited || held {
         return states::failed(state, Failure::InvalidState);
     }
     if payloads::is_value(payload) {
-        let mut secrets = state.secrets;
         let early = octets::reversed(payload);
-        secrets.held = early;
-        return states::goes(state, phase, secrets, 0, ConnectionEvent::Nothing);
+        let secrets = Secrets {
+            held: early,
+            ..state.secrets
+        };
+        return states::goes(state, phase, secrets, 0, None);
     }
     states::failed(state, Failure::InvalidValue)
 }

@@ -5,12 +5,15 @@ use borrow.Author.Tests.{eqb-true, eq-eqb, ne_eqb}
 use Rattle.octets.proofs.Octets.{turned_whole}
 use Rattle.protocol.proofs.Follows.{failing, moving_silent, passes, stops}
 use Rattle.holding.proofs.holds.Goals as goal
+use Rattle.holding.proofs.holds.Goals.{then-code-awaited-via-then-code-awaited, then-code-awaited-via-else-code-awaited+then-held}
 
 pub returns-then-code-awaited : goal.returns-then-code-awaited
-returns-then-code-awaited c = λ a out. stops (ne_eqb _ _ c.if-code-awaited.true) (failing c.failed.ensures)
-
-pub returns-then-held : goal.returns-then-held
-returns-then-held c = λ a out. passes (eq-eqb _ _ c.if-code-awaited.false) (stops (ap not c.if-held.true) (failing c.failed-then-held.ensures))
+returns-then-code-awaited c =
+    λ a out. elim c.then-code-awaited.branch [
+      | then-code-awaited-via-then-code-awaited w ↦ stops (ne_eqb _ _ w.if-code-awaited.true) (failing c.failed.ensures)
+      | then-code-awaited-via-else-code-awaited+then-held w ↦
+          passes (eq-eqb _ _ w.if-code-awaited.false) (stops (ap not w.if-held.true) (failing c.failed.ensures))
+    ]
 
 pub returns-then-is_value : goal.returns-then-is_value
 returns-then-is_value c =
