@@ -16,7 +16,7 @@ comparison_other m held (I.LinkEncryptedResult ok) n1 n2 = refl
 comparison_other m held I.PassKeyConfirm n1 n2 = absurd (n1 refl)
 comparison_other m held I.PassKeyCancel n1 n2 = absurd (n2 refl)
 comparison_other m held (I.PassKeyInput p) n1 n2 = refl
-comparison_other m held I.OobDataReceived n1 n2 = refl
+comparison_other m held (I.OobDataReceived o) n1 n2 = refl
 
 pub compares_other : (x : PairingMethod) (m : State) (nonce : List ℕ) → (x ≡ JustWorks → ⊥) → compares x m nonce ≡ compares NumericComparison m nonce
 compares_other JustWorks m nonce n = absurd (n refl)

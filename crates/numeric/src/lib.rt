@@ -6,7 +6,7 @@ ghost use Rattle.machine.specs.Responder.{Follows};
 
 use machine::{Phase, State, Step};
 use method::PairingMethod;
-use protocol::{ConnectionEvent, Event, Failure, Supplied, Verdict};
+use protocol::{ConnectionEvent, Event, Failure, Secrets, Supplied};
 
 // A command in WaitingNumericComparisonRandom: the peer's nonce, which ours answers.
 pub fn comparison_random(
@@ -18,13 +18,9 @@ pub fn comparison_random(
 ) -> Step
     ensures { Follows state supplied (on_comparison_random state code payload.now) result out.old out.new }
 {
-    let verdict = payloads::random(code, payload);
-    match verdict {
-        Verdict::Wrong(failure) => states::failed(state, failure),
-        Verdict::Awaited => {
-            let method = state.method;
-            compare(method, state, octets::reversed(payload), supplied, out)
-        }
+    match payloads::random(code, payload) {
+        Ok(nonce) => compare(state, nonce, supplied, out),
+        Err(failure) => states::failed(state, failure),
     }
 }
 
@@ -46,33 +42,22 @@ pub fn comparison_event(
 }
 
 // Our nonce goes out. Just Works goes on; else the user compares six digits.
-fn compare(
-    method: PairingMethod,
-    state: State,
-    nonce: [u8; 16],
-    supplied: Supplied,
-    out: &mut [u8],
-) -> Step
-    ensures { Follows state supplied (compares method state nonce) result out.old out.new }
+fn compare(state: State, nonce: [u8; 16], supplied: Supplied, out: &mut [u8]) -> Step
+    ensures { Follows state supplied (compares state.method state nonce) result out.old out.new }
 {
-    let mut secrets = state.secrets;
-    let own_nonce = secrets.ownnonce;
-    secrets.peernonce = nonce;
-    let sent = frames::random(out, own_nonce);
-    match method {
-        PairingMethod::JustWorks => states::goes(
-            state,
-            Phase::WaitingDHKeyEa,
-            secrets,
-            sent,
-            ConnectionEvent::Nothing,
-        ),
+    let sent = frames::random(out, state.secrets.ownnonce);
+    let secrets = Secrets {
+        peernonce: nonce,
+        ..state.secrets
+    };
+    match state.method {
+        PairingMethod::JustWorks => states::goes(state, Phase::WaitingDHKeyEa, secrets, sent, None),
         _ => states::goes(
             state,
             Phase::WaitingNumericComparisonResult(false),
             secrets,
             sent,
-            ConnectionEvent::PassKeyConfirm(supplied.g2 % 1_000_000),
+            Some(ConnectionEvent::PassKeyConfirm(supplied.g2 % 1_000_000)),
         ),
     }
 }
@@ -81,16 +66,8 @@ fn compare(
 fn confirmed(state: State, held: bool, supplied: Supplied, out: &mut [u8]) -> Step
     ensures { Follows state supplied (confirmed state held) result out.old out.new }
 {
-    let secrets = state.secrets;
-    let early = secrets.held;
     if held {
-        return dhkey::check_value(state, early, supplied, out);
+        return dhkey::check_value(state, state.secrets.held, supplied, out);
     }
-    states::goes(
-        state,
-        Phase::WaitingDHKeyEa,
-        secrets,
-        0,
-        ConnectionEvent::Nothing,
-    )
+    states::goes(state, Phase::WaitingDHKeyEa, state.secrets, 0, None)
 }

@@ -1,13 +1,9 @@
 -- `numeric::comparison_random` meets its contract. Assumes nothing.
-use mathlib.Core.Path.{◌∙◌}
-use Rattle.protocol.proofs.Follows.{wrong, awaited, read_value}
+use Rattle.protocol.proofs.Follows.{wrong, awaited, awaited_value}
 use Rattle.numeric.proofs.comparison_random.Goals as goal
 
-pub returns-in-Wrong : goal.returns-in-Wrong
-returns-in-Wrong c = wrong c.random-verdict.ensures c.in-Wrong.is c.failed.ensures
+pub returns-in-Ok : goal.returns-in-Ok
+returns-in-Ok c = awaited _ c.random.ensures c.in-Ok.is (rw (← awaited_value _ _ _ c.random.ensures c.in-Ok.is) c.compare.ensures)
 
-pub returns-in-Awaited : goal.returns-in-Awaited
-returns-in-Awaited c =
-    let verdict = c.random-verdict.ensures in
-    let told = c.in-Awaited.is in
-    awaited verdict told (rw (← (c.reversed.ensures ∙ read_value _ _ _ verdict told)) c.compare.ensures)
+pub returns-in-Err : goal.returns-in-Err
+returns-in-Err c = wrong _ c.random.ensures c.in-Err.is c.failed.ensures
