@@ -12,11 +12,11 @@ bonded_other m (I.LinkEncryptedResult ok) n = absurd (n ok refl)
 bonded_other m I.PassKeyConfirm n = refl
 bonded_other m I.PassKeyCancel n = refl
 bonded_other m (I.PassKeyInput p) n = refl
-bonded_other m I.OobDataReceived n = refl
+bonded_other m (I.OobDataReceived o) n = refl
 
 pub encrypted_other : (m : State) (x : Event) → ((ok : Bool) → x ≡ I.LinkEncryptedResult ok → ⊥) → on_encrypted m x ≡ unlisted
 encrypted_other m (I.LinkEncryptedResult ok) n = absurd (n ok refl)
 encrypted_other m I.PassKeyConfirm n = refl
 encrypted_other m I.PassKeyCancel n = refl
 encrypted_other m (I.PassKeyInput p) n = refl
-encrypted_other m I.OobDataReceived n = refl
+encrypted_other m (I.OobDataReceived o) n = refl

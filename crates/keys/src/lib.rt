@@ -24,7 +24,7 @@ ghost use Rattle.machine.specs.Responder.{Follows, Quiet};
 
 use address::Address;
 use machine::{Phase, State, Step};
-use protocol::{ConnectionEvent, Event, Failure, MaybeBond, Verdict};
+use protocol::{Bond, Event, Failure};
 
 // An event in WaitingPairingRequest: a bonded link may be encrypted with no pairing at all.
 pub fn bonded_link_event(state: State, event: Event, out: &mut [u8]) -> Step
@@ -50,15 +50,14 @@ pub fn encrypted_event(state: State, event: Event, out: &mut [u8]) -> Step
 pub fn identity_information(state: State, code: u8, payload: &[u8]) -> Step
     ensures { (a : Supplied) → Quiet state a (on_information state code payload.now) result }
 {
-    let verdict = payloads::value(
+    match payloads::value(
         frames::IDENTITY_INFORMATION,
         Failure::InvalidValue,
         code,
         payload,
-    );
-    match verdict {
-        Verdict::Wrong(failure) => states::failed(state, failure),
-        Verdict::Awaited => keep_irk(state, octets::reversed(payload)),
+    ) {
+        Ok(irk) => keep_irk(state, irk),
+        Err(failure) => states::failed(state, failure),
     }
 }
 
@@ -66,17 +65,16 @@ pub fn identity_information(state: State, code: u8, payload: &[u8]) -> Step
 fn keep_irk(state: State, irk: [u8; 16]) -> Step
     ensures { (a : Supplied) → Quiet state a (ends (informed state irk)) result }
 {
-    let bond = state.bond;
-    let secrets = state.secrets;
-    let mut kept = state;
-    let with_irk = bond_with_irk(bond, irk);
-    kept.bond = with_irk;
+    let kept = State {
+        bond: bond_with_irk(state.bond, irk),
+        ..state
+    };
     states::goes(
         kept,
         Phase::WaitingIdentitityAddressInformation,
-        secrets,
+        state.secrets,
         0,
-        ConnectionEvent::Nothing,
+        None,
     )
 }
 
@@ -110,10 +108,10 @@ fn bonded_link(state: State, linked: bool, out: &mut [u8]) -> Step
     ensures { (a : Supplied) → Follows state a (on_bonded_link state (Event.LinkEncryptedResult linked)) result out.old out.new }
 {
     if linked {
-        let setup = state.setup;
-        let known = setup.known;
-        let mut bonded = state;
-        bonded.bond = known;
+        let bonded = State {
+            bond: state.setup.known,
+            ..state
+        };
         return distribute(bonded, out);
     }
     states::failed(state, Failure::KeyRejected)
@@ -134,16 +132,14 @@ fn encrypted(state: State, ok: bool, out: &mut [u8]) -> Step
 fn distribute(state: State, out: &mut [u8]) -> Step
     ensures { (m : State) (a : Supplied) → Follows m a (encrypting state) result out.old out.new }
 {
-    let features = state.features;
-    let secrets = state.secrets;
     let sent = send_identity(state, out);
-    if features::identity_key(features.initiator) {
+    if features::identity_key(state.features.initiator) {
         return states::goes(
             state,
             Phase::WaitingIdentitityInformation,
-            secrets,
+            state.secrets,
             sent,
-            ConnectionEvent::Nothing,
+            None,
         );
     }
     states::succeeded(state, sent)
@@ -153,40 +149,23 @@ fn distribute(state: State, out: &mut [u8]) -> Step
 fn send_identity(state: State, out: &mut [u8]) -> usize
     ensures { Wrote (framed channel (own_identity state)) out.old result out.new }
 {
-    let setup = state.setup;
-    let features = state.features;
-    let own = request::own_features(setup, features);
-    let irk = setup.irk;
-    let identity = setup.identity;
+    let own = request::own_features(state.setup, state.features);
     if features::identity_key(own.responder) {
-        return frames::identity(out, irk, identity);
+        return frames::identity(out, state.setup.irk, state.setup.identity);
     }
     0
 }
 
 // A bond, if there is one, with the peer's IRK.
-fn bond_with_irk(held: MaybeBond, irk: [u8; 16]) -> MaybeBond
+fn bond_with_irk(held: Option<Bond>, irk: [u8; 16]) -> Option<Bond>
     ensures { result ≡ with_irk held irk }
 {
-    if held.there {
-        let mut bond = held.bond;
-        bond.irk = irk;
-        return MaybeBond { there: true, bond };
-    }
-    held
+    held.map(|bond| Bond { irk, ..bond })
 }
 
 // A bond, if there is one, with the peer's identity address.
-fn bond_with_address(held: MaybeBond, address: Address) -> MaybeBond
+fn bond_with_address(held: Option<Bond>, address: Address) -> Option<Bond>
     ensures { result ≡ with_address held address }
 {
-    if held.there {
-        let mut known = held.bond;
-        known.address = address;
-        return MaybeBond {
-            there: true,
-            bond: known,
-        };
-    }
-    held
+    held.map(|bond| Bond { address, ..bond })
 }

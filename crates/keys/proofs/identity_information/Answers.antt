@@ -1,13 +1,10 @@
 -- `keys::identity_information` meets its contract. Assumes nothing.
-use mathlib.Core.Path.{◌∙◌}
-use Rattle.protocol.proofs.Follows.{wrong, awaited, read_value}
+use Rattle.protocol.proofs.Follows.{wrong, awaited, awaited_value}
 use Rattle.keys.proofs.identity_information.Goals as goal
 
-pub returns-in-Wrong : goal.returns-in-Wrong
-returns-in-Wrong c = λ a out. wrong c.value-verdict.ensures c.in-Wrong.is c.failed.ensures
+pub returns-in-Ok : goal.returns-in-Ok
+returns-in-Ok c =
+    λ a out. awaited _ c.value.ensures c.in-Ok.is (rw (← awaited_value _ _ _ c.value.ensures c.in-Ok.is) (c.keep_irk.ensures a out))
 
-pub returns-in-Awaited : goal.returns-in-Awaited
-returns-in-Awaited c =
-    let verdict = c.value-verdict.ensures in
-    let told = c.in-Awaited.is in
-    λ a out. awaited verdict told (rw (← (c.reversed.ensures ∙ read_value _ _ _ verdict told)) (c.keep_irk.ensures a out))
+pub returns-in-Err : goal.returns-in-Err
+returns-in-Err c = λ a out. wrong _ c.value.ensures c.in-Err.is c.failed.ensures
