@@ -7,5 +7,5 @@ use Rattle.front.proofs.on_event.Reads as on_event_lem
 pub on_command_settled : Settles on_command_lem.Post (λ κs e. e.1.1.1.0.now)
 on_command_settled κs a z z' e e' p q = only_followed p q
 
-pub on_event_settled : Settles on_event_lem.Post (λ κs e. e.1.1.1.1.0.now)
+pub on_event_settled : Settles on_event_lem.Post (λ κs e. e.1.1.1.0.now)
 on_event_settled κs a z z' e e' p q = only_followed p q
