@@ -4,8 +4,5 @@ use Rattle.frames.specs.Packets.{channel}
 use Rattle.protocol.proofs.Follows.{nothing}
 use Rattle.keys.proofs.send_identity.Goals as goal
 
-pub returns-then-identity_key : goal.returns-then-identity_key
-returns-then-identity_key c = rw (← c.own_features-own.ensures, sym c.identity_key.ensures ∙ c.if-identity_key.true) c.identity.ensures
-
 pub returns : goal.returns
 returns c = rw (← c.own_features-own.ensures, sym c.identity_key.ensures ∙ c.if-identity_key.false) (nothing channel _)

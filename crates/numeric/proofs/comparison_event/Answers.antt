@@ -3,9 +3,6 @@ use Rattle.protocol.proofs.Follows.{failing}
 use Rattle.numeric.proofs.Other.{comparison_other}
 use Rattle.numeric.proofs.comparison_event.Goals as goal
 
-pub returns-in-PassKeyConfirm : goal.returns-in-PassKeyConfirm
-returns-in-PassKeyConfirm c = rw c.in-PassKeyConfirm.is c.confirmed.ensures
-
 pub returns-in-PassKeyCancel : goal.returns-in-PassKeyCancel
 returns-in-PassKeyCancel c = rw c.in-PassKeyCancel.is (failing c.failed.ensures)
 

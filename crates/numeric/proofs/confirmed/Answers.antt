@@ -2,8 +2,5 @@
 use Rattle.protocol.proofs.Follows.{moving_silent}
 use Rattle.numeric.proofs.confirmed.Goals as goal
 
-pub returns-then-held : goal.returns-then-held
-returns-then-held c = rw c.if-held.true c.check_value.ensures
-
 pub returns : goal.returns
 returns c = rw c.if-held.false (moving_silent c.goes.ensures)

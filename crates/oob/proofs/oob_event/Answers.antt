@@ -3,8 +3,5 @@ use Rattle.protocol.proofs.Follows.{failing}
 use Rattle.oob.proofs.Other.{oob_other}
 use Rattle.oob.proofs.oob_event.Goals as goal
 
-pub returns-in-OobDataReceived : goal.returns-in-OobDataReceived
-returns-in-OobDataReceived c = rw c.in-OobDataReceived.is c.receive.ensures
-
 pub returns-in_default : goal.returns-in_default
 returns-in_default c = rw (oob_other _ _ c.in_default.not-OobDataReceived) (λ out. failing c.failed.ensures)

@@ -6,8 +6,5 @@ use Rattle.passkey.proofs.typing_event.Goals as goal
 pub returns-in-PassKeyCancel : goal.returns-in-PassKeyCancel
 returns-in-PassKeyCancel c = rw c.in-PassKeyCancel.is (failing c.failed.ensures)
 
-pub returns-in-PassKeyInput : goal.returns-in-PassKeyInput
-returns-in-PassKeyInput c = rw c.in-PassKeyInput.is c.typed.ensures
-
 pub returns-in_default : goal.returns-in_default
 returns-in_default c = rw (typing_other _ _ _ c.in_default.not-PassKeyCancel c.in_default.not-PassKeyInput) (failing c.failed-in_default.ensures)
