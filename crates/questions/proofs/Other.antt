@@ -1,55 +1,62 @@
 -- What the last arm of a match takes: a phase, an event and a method of which nothing is asked. Assumes nothing.
+use Rattle.std.specs.Prelude.{Option, Some, None, Result, Ok, Err}
+use Rattle.std.specs.Option.{option_or}
+use Rattle.std.specs.Result.{result_ok}
 use Prim.Native.Nat.{ℕ}
-use mathlib.Core.Path.{◌≡◌, refl}
-use mathlib.Core.List.{List}
-use mathlib.Core.Bool.{Bool}
+use mathlib.Core.Path.{◌≡◌, refl, ap, ◌∙◌}
+use mathlib.Core.Logic.{◌⊎◌, inl, inr}
+use mathlib.Core.List.{List, [], ◌∷◌}
+use mathlib.Core.Bool.{Bool, true, false, cond, ◌&&◌}
+use native.Mathlib.Omega.{arith}
+use Rattle.octets.specs.Octets.{same}
+use Rattle.features.specs.declared.PairingFeatures.{PairingFeatures}
 use Rattle.method.specs.declared.PairingMethod.{PairingMethod}
 use Rattle.method.specs.declared.PairingMethod.TheVariants.{JustWorks, NumericComparison, PassKeyEntry, OutOfBand}
 use Rattle.method.specs.declared.PassKeyEntryAction.TheVariants as W
-use Rattle.protocol.specs.declared.Acceptance.{Acceptance}
-use Rattle.protocol.specs.declared.Acceptance.TheVariants as X
-use Rattle.protocol.specs.declared.Configured.{Configured}
-use Rattle.protocol.specs.declared.Configured.TheVariants as C
 use Rattle.protocol.specs.declared.Event.{Event}
 use Rattle.protocol.specs.declared.Event.TheVariants as I
+use Rattle.protocol.specs.declared.Failure.{Failure}
+use Rattle.protocol.specs.declared.Failure.TheVariants as F
 use Rattle.protocol.specs.declared.Given.{Given}
 use Rattle.protocol.specs.declared.OobData.{OobData}
 use Rattle.protocol.specs.declared.Question.{Question}
 use Rattle.protocol.specs.declared.Secrets.{Secrets}
 use Rattle.protocol.specs.declared.Supplied.{Supplied}
-use Rattle.protocol.specs.Plan.{ends}
-use Rattle.protocol.specs.Parts.{no_question, accept_of, accepting, shown}
-use Rattle.protocol.specs.Next.{Queried}
-use Rattle.protocol.proofs.Next.{asks_nothing, draws, draws_passkey_lem, either}
+use Rattle.protocol.specs.Plan.{Plan, kind_of, Reply, ends, asks, reply, asked, needs}
+use Rattle.protocol.specs.Parts.{accept_of, accepting, shown, verdict_of}
+use Rattle.protocol.specs.Next.{known, next_of, Queried}
+use Rattle.protocol.proofs.Follows.{awaited_size, awaited_value}
+use Rattle.protocol.proofs.Next.{asks_nothing, draws, draws_passkey_lem, either, wrong_asks, awaited_asks}
 use Rattle.machine.specs.declared.Phase.{Phase}
 use Rattle.machine.specs.declared.Phase.TheVariants as P
 use Rattle.machine.specs.declared.State.{State}
 use Rattle.machine.specs.Request.{lost, responding}
-use Rattle.machine.specs.Exchange.{begins, showing}
+use Rattle.machine.specs.Exchange.{comparing, begins, showing}
+use Rattle.machine.specs.Dhkey.{ask_keys, ask_peer_check, ask_own_check, checking}
 use Rattle.machine.specs.Numeric.{numbering, compares, on_comparison}
 use Rattle.machine.specs.Passkey.{on_typing}
 use Rattle.machine.specs.Oob.{on_oob_data}
 use Rattle.machine.specs.Keys.{on_bonded_link, on_encrypted}
 use Rattle.machine.specs.Responder.{on_command, on_event}
 
-module _ (g : Given) (a : Supplied) (r : Question) (none : r ≡ no_question) where
-  accepted : (m : State) (x : Acceptance) → Queried g a (accepting (lost m) x λ f. ends (responding m f)) r
-  accepted m (X.Accepted f) = asks_nothing none
-  accepted m (X.Rejected f) = asks_nothing none
+module _ (g : Given) (a : Supplied) (r : Option Question) (none : r ≡ None) where
+  accepted : (m : State) (x : Result PairingFeatures Failure) → Queried g a (accepting (lost m) x λ f. ends (responding m f)) r
+  accepted m (Ok f) = asks_nothing none
+  accepted m (Err f) = asks_nothing none
 
   bonded : (m : State) (e : Event) → Queried g a (on_bonded_link m e) r
   bonded m (I.LinkEncryptedResult ok) = either (either (asks_nothing none) (asks_nothing none)) (asks_nothing none)
   bonded m I.PassKeyConfirm = asks_nothing none
   bonded m I.PassKeyCancel = asks_nothing none
   bonded m (I.PassKeyInput p) = asks_nothing none
-  bonded m I.OobDataReceived = asks_nothing none
+  bonded m (I.OobDataReceived o) = asks_nothing none
 
   encrypted : (m : State) (e : Event) → Queried g a (on_encrypted m e) r
   encrypted m (I.LinkEncryptedResult ok) = either (either (asks_nothing none) (asks_nothing none)) (asks_nothing none)
   encrypted m I.PassKeyConfirm = asks_nothing none
   encrypted m I.PassKeyCancel = asks_nothing none
   encrypted m (I.PassKeyInput p) = asks_nothing none
-  encrypted m I.OobDataReceived = asks_nothing none
+  encrypted m (I.OobDataReceived o) = asks_nothing none
 
   pub command_other : (x : Phase) (m : State) (code : ℕ) (body : List ℕ) → (x ≡ P.WaitingPublicKey → ⊥) → (x ≡ P.WaitingNumericComparisonRandom → ⊥) → ((round : ℕ) → x ≡ P.WaitingPassKeyEntryConfirm round → ⊥) → ((round : ℕ) → x ≡ P.WaitingPassKeyEntryRandom round → ⊥) → (x ≡ P.WaitingDHKeyEa → ⊥) → Queried g a (on_command x m code body) r
   command_other P.WaitingPairingRequest m code body n1 n2 n3 n4 n5 = either (accepted m (accept_of body)) (asks_nothing none)
@@ -68,47 +75,47 @@ module _ (g : Given) (a : Supplied) (r : Question) (none : r ≡ no_question) wh
   command_other P.Success m code body n1 n2 n3 n4 n5 = asks_nothing none
   command_other (P.Error f) m code body n1 n2 n3 n4 n5 = asks_nothing none
 
-  pub event_other : (x : Phase) (m : State) (e : Event) (o : OobData) → ((held : Bool) → x ≡ P.WaitingNumericComparisonResult held → ⊥) → ((held : Bool) → x ≡ P.WaitingPassKeyInput held → ⊥) → (x ≡ P.WaitingOobData → ⊥) → Queried g a (on_event x m e o) r
-  event_other P.WaitingPairingRequest m e o n1 n2 n3 = bonded m e
-  event_other P.WaitingPublicKey m e o n1 n2 n3 = asks_nothing none
-  event_other P.WaitingNumericComparisonRandom m e o n1 n2 n3 = asks_nothing none
-  event_other (P.WaitingNumericComparisonResult held) m e o n1 n2 n3 = absurd (n1 held refl)
-  event_other (P.WaitingPassKeyInput held) m e o n1 n2 n3 = absurd (n2 held refl)
-  event_other (P.WaitingPassKeyEntryConfirm round) m e o n1 n2 n3 = asks_nothing none
-  event_other (P.WaitingPassKeyEntryRandom round) m e o n1 n2 n3 = asks_nothing none
-  event_other P.WaitingOobData m e o n1 n2 n3 = absurd (n3 refl)
-  event_other P.WaitingOobRandom m e o n1 n2 n3 = asks_nothing none
-  event_other P.WaitingDHKeyEa m e o n1 n2 n3 = asks_nothing none
-  event_other P.WaitingLinkEncrypted m e o n1 n2 n3 = encrypted m e
-  event_other P.WaitingIdentitityInformation m e o n1 n2 n3 = asks_nothing none
-  event_other P.WaitingIdentitityAddressInformation m e o n1 n2 n3 = asks_nothing none
-  event_other P.Success m e o n1 n2 n3 = asks_nothing none
-  event_other (P.Error f) m e o n1 n2 n3 = asks_nothing none
+  pub event_other : (x : Phase) (m : State) (e : Event) → ((held : Bool) → x ≡ P.WaitingNumericComparisonResult held → ⊥) → ((held : Bool) → x ≡ P.WaitingPassKeyInput held → ⊥) → (x ≡ P.WaitingOobData → ⊥) → Queried g a (on_event x m e) r
+  event_other P.WaitingPairingRequest m e n1 n2 n3 = bonded m e
+  event_other P.WaitingPublicKey m e n1 n2 n3 = asks_nothing none
+  event_other P.WaitingNumericComparisonRandom m e n1 n2 n3 = asks_nothing none
+  event_other (P.WaitingNumericComparisonResult held) m e n1 n2 n3 = absurd (n1 held refl)
+  event_other (P.WaitingPassKeyInput held) m e n1 n2 n3 = absurd (n2 held refl)
+  event_other (P.WaitingPassKeyEntryConfirm round) m e n1 n2 n3 = asks_nothing none
+  event_other (P.WaitingPassKeyEntryRandom round) m e n1 n2 n3 = asks_nothing none
+  event_other P.WaitingOobData m e n1 n2 n3 = absurd (n3 refl)
+  event_other P.WaitingOobRandom m e n1 n2 n3 = asks_nothing none
+  event_other P.WaitingDHKeyEa m e n1 n2 n3 = asks_nothing none
+  event_other P.WaitingLinkEncrypted m e n1 n2 n3 = encrypted m e
+  event_other P.WaitingIdentitityInformation m e n1 n2 n3 = asks_nothing none
+  event_other P.WaitingIdentitityAddressInformation m e n1 n2 n3 = asks_nothing none
+  event_other P.Success m e n1 n2 n3 = asks_nothing none
+  event_other (P.Error f) m e n1 n2 n3 = asks_nothing none
 
   pub comparison_other : (m : State) (held : Bool) (x : Event) → (x ≡ I.PassKeyConfirm → ⊥) → Queried g a (on_comparison m held x) r
   comparison_other m held (I.LinkEncryptedResult ok) n = asks_nothing none
   comparison_other m held I.PassKeyConfirm n = absurd (n refl)
   comparison_other m held I.PassKeyCancel n = asks_nothing none
   comparison_other m held (I.PassKeyInput p) n = asks_nothing none
-  comparison_other m held I.OobDataReceived n = asks_nothing none
+  comparison_other m held (I.OobDataReceived o) n = asks_nothing none
 
   pub typing_other : (m : State) (held : Bool) (x : Event) → ((p : ℕ) → x ≡ I.PassKeyInput p → ⊥) → Queried g a (on_typing m held x) r
   typing_other m held (I.LinkEncryptedResult ok) n = asks_nothing none
   typing_other m held I.PassKeyConfirm n = asks_nothing none
   typing_other m held I.PassKeyCancel n = asks_nothing none
   typing_other m held (I.PassKeyInput p) n = absurd (n p refl)
-  typing_other m held I.OobDataReceived n = asks_nothing none
+  typing_other m held (I.OobDataReceived o) n = asks_nothing none
 
-  pub received_other : (m : State) (x : Event) (o : OobData) → (x ≡ I.OobDataReceived → ⊥) → Queried g a (on_oob_data m x o) r
-  received_other m (I.LinkEncryptedResult ok) o n = asks_nothing none
-  received_other m I.PassKeyConfirm o n = asks_nothing none
-  received_other m I.PassKeyCancel o n = asks_nothing none
-  received_other m (I.PassKeyInput p) o n = asks_nothing none
-  received_other m I.OobDataReceived o n = absurd (n refl)
+  pub received_other : (m : State) (x : Event) → ((o : OobData) → x ≡ I.OobDataReceived o → ⊥) → Queried g a (on_oob_data m x) r
+  received_other m (I.LinkEncryptedResult ok) n = asks_nothing none
+  received_other m I.PassKeyConfirm n = asks_nothing none
+  received_other m I.PassKeyCancel n = asks_nothing none
+  received_other m (I.PassKeyInput p) n = asks_nothing none
+  received_other m (I.OobDataReceived o) n = absurd (n o refl)
 
-  showed : (c : Configured) (m : State) (s : Secrets) → Queried g a (shown c λ p. ends (showing m s p)) r
-  showed C.Nothing m s = draws_passkey_lem (either (asks_nothing none) (asks_nothing none))
-  showed (C.Passkey p) m s = asks_nothing none
+  showed : (c : Option ℕ) (m : State) (s : Secrets) → Queried g a (shown c λ p. ends (showing m s p)) r
+  showed None m s = draws_passkey_lem (either (asks_nothing none) (asks_nothing none))
+  showed (Some p) m s = asks_nothing none
 
   pub key_other : (x : PairingMethod) (m : State) (s : Secrets) → (x ≡ JustWorks → ⊥) → (x ≡ NumericComparison → ⊥) → Queried g a (begins x m s) r
   key_other JustWorks m s n1 n2 = absurd (n1 refl)
@@ -116,6 +123,72 @@ module _ (g : Given) (a : Supplied) (r : Question) (none : r ≡ no_question) wh
   key_other (PassKeyEntry central W.Display) m s n1 n2 = showed m.setup.passkey m s
   key_other (PassKeyEntry central W.Input) m s n1 n2 = asks_nothing none
   key_other OutOfBand m s n1 n2 = asks_nothing none
+
+-- A command's payload, judged by its Result
+
+told_value : {A : Type 0} {v : Result A Failure} {y : A} → result_ok v ≡ Some y → v ≡ Ok y
+told_value {v = Ok x} e = cc
+told_value {v = Err x} e = let z : ◌≡◌ {A = ℕ} 0 1 = cc in absurd (omega arith)
+
+module _ {S : Type 0} {g : Given} {a : Supplied} {r : Option Question} {A : Type 0} {b d : Bool} {f : Failure} where
+  pub unheard : (x : A) {v : Result A Failure} {q : Plan S} → v ≡ verdict_of b d f x → result_ok v ≡ None → r ≡ None → Queried g a (needs b F.InvalidState (needs d f q)) r
+  unheard x {v = Ok y} e w h = let z : ◌≡◌ {A = ℕ} 0 1 = cc in absurd (omega arith)
+  unheard x {v = Err y} e w h = wrong_asks x e refl h
+
+  pub heard : (x : A) {v : Result A Failure} {y : A} {q : Plan S} → v ≡ verdict_of b d f x → result_ok v ≡ Some y → Queried g a q r → Queried g a (needs b F.InvalidState (needs d f q)) r
+  heard x e w h = awaited_asks x e (told_value w) h
+
+pub heard_value : {A : Type 0} (b d : Bool) (f : Failure) {x : A} {v : Result A Failure} {y : A} → v ≡ verdict_of b d f x → result_ok v ≡ Some y → y ≡ x
+heard_value b d f e w = awaited_value b d f e (told_value w)
+
+pub heard_size : {A : Type 0} (b d : Bool) (f : Failure) (x : A) {v : Result A Failure} {y : A} → v ≡ verdict_of b d f x → result_ok v ≡ Some y → d ≡ true
+heard_size b d f x e w = awaited_size b d f x e (told_value w)
+
+-- One question, or what is asked after it
+module _ {S : Type 0} {g : Given} {a : Supplied} {r rest : Option Question} where
+  pub asks_or : {q : Question} {k : Reply (kind_of q) → Plan S} → Queried g a (k (reply a (kind_of q))) rest → r ≡ option_or (cond (known g (kind_of q)) None (Some q)) rest
+      → Queried g a (asks q k) r
+  unfolding next_of asked
+  asks_or {q} {k} i h = record { next = h ∙ go (known g (kind_of q)) i.next }
+    where
+      go : (b : Bool) → rest ≡ next_of g (asked a (k (reply a (kind_of q)))) → option_or (cond b None (Some q)) rest ≡ cond b (next_of g (asked a (k (reply a (kind_of q))))) (Some q)
+      go true e = e
+      go false e = refl
+
+-- two questions in order
+pub asks_both : (g : Given) (q p : Question) {r : Option Question} → r ≡ option_or (cond (known g (kind_of q)) None (Some q)) (cond (known g (kind_of p)) None (Some p))
+    → r ≡ next_of g (q ∷ p ∷ [])
+unfolding next_of
+asks_both g q p h = h ∙ go (known g (kind_of q))
+  where
+    go : (b : Bool) → option_or (cond b None (Some q)) (cond (known g (kind_of p)) None (Some p)) ≡ cond b (cond (known g (kind_of p)) None (Some p)) (Some q)
+    go true = refl
+    go false = refl
+
+-- A check, wrong and right
+module _ (m : State) {g : Given} {a : Supplied} {r two : Option Question} (e : two ≡ next_of g (ask_keys m ∷ ask_peer_check m a.mackey ∷ [])) where
+  pub wrong_check : (b : Bool) (v : List ℕ) → b && same v a.peercheck ≡ false → r ≡ two → Queried g a (checking m b v) r
+  unfolding next_of asked
+  wrong_check b v s h = record { next = rw s (h ∙ e) }
+
+  pub right_check : (v : List ℕ) → same v a.peercheck ≡ true → r ≡ option_or two (cond g.owncheck None (Some (ask_own_check m a.mackey))) → Queried g a (checking m true v) r
+  unfolding next_of asked
+  right_check v s h = record { next = rw s (h ∙ ap (λ x. option_or x (cond g.owncheck None (Some (ask_own_check m a.mackey)))) e ∙ go g.f5 g.peercheck) }
+    where
+      own : Option Question
+      own = cond g.owncheck None (Some (ask_own_check m a.mackey))
+
+      go : (b d : Bool) → option_or (cond b (cond d None (Some (ask_peer_check m a.mackey))) (Some (ask_keys m))) own
+          ≡ cond b (cond d own (Some (ask_peer_check m a.mackey))) (Some (ask_keys m))
+      go true true = refl
+      go true false = refl
+      go false d = refl
+
+-- Just Works and numeric comparison begin alike
+pub key_comparing : {g : Given} {a : Supplied} {r : Option Question} (x : PairingMethod) (m : State) (s : Secrets) → (x ≡ JustWorks) ⊎ (x ≡ NumericComparison)
+    → Queried g a (comparing m s) r → Queried g a (begins x m s) r
+key_comparing x m s (inl e) h = rw e h
+key_comparing x m s (inr e) h = rw e h
 
 pub compare_other : (x : PairingMethod) (m : State) (nonce : List ℕ) → (x ≡ JustWorks → ⊥) → compares x m nonce ≡ numbering m nonce
 compare_other JustWorks m nonce n = absurd (n refl)

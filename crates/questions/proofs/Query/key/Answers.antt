@@ -1,0 +1,16 @@
+-- `questions::Query::key` meets its contract. Assumes nothing.
+use mathlib.Core.Path.{sym, ◌∙◌}
+use Rattle.protocol.proofs.Follows.{read_x, read_y}
+use Rattle.questions.proofs.Other.{heard, heard_size, unheard, asks_or}
+use Rattle.questions.proofs.Query.key.Goals as goal
+
+pub returns-in_err-ok : goal.returns-in_err-ok
+returns-in_err-ok c = unheard _ c.public_key.ensures (sym c.ok.ensures.value ∙ rw c.in_err-ok.is at c.branch-ok.ensures) c.from_residual.ensures
+
+pub returns : goal.returns
+returns c =
+    let told = sym c.ok.ensures.value ∙ rw c.in_ok-ok.is at c.branch-ok.ensures in
+    let size = heard_size _ _ _ _ c.public_key.ensures told in
+    heard _ c.public_key.ensures told
+    (rw (← (c.peer_x-x.ensures ∙ read_x c.args.payload.now size), ← (c.peer_y-y.ensures ∙ read_y c.args.payload.now size))
+    (asks_or c.first_move.ensures (rw c.unless.ensures at c.or.ensures)))

@@ -1,7 +1,0 @@
--- `questions::peer_confirm` meets its contract. Assumes nothing.
-use mathlib.Core.Path.{refl}
-use Rattle.protocol.proofs.Next.{asks_nothing, asks_last, either}
-use Rattle.questions.proofs.peer_confirm.Goals as goal
-
-pub returns : goal.returns
-returns c = asks_last (either (asks_nothing refl) (asks_nothing refl)) (rw (c.f4.ensures, c.z-z.ensures) at c.unless.ensures)
