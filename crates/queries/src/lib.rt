@@ -8,7 +8,7 @@ ghost use Rattle.queries.specs.Result.{result_of};
 use address::Address;
 use machine::Phase;
 use method::SecurityLevel;
-use protocol::{Failure, MaybeBond};
+use protocol::{Bond, Failure};
 use responder::Responder;
 
 #[derive(Clone, Copy)]
@@ -22,64 +22,51 @@ pub enum PairingResult {
 pub fn result(responder: Responder) -> PairingResult
     ensures { result ≡ result_of responder.state.phase }
 {
-    let state = responder.state;
-    let phase = state.phase;
-    result_of(phase)
+    result_of(responder.state.phase)
 }
 
 // Whether the link counts as encrypted.
 pub fn is_encrypted(responder: Responder) -> bool
     ensures { result ≡ encrypted responder.state.phase }
 {
-    let state = responder.state;
-    let phase = state.phase;
-    encrypted_in(phase)
+    encrypted_in(responder.state.phase)
 }
 
 // The bond's level where the link is encrypted and there is a bond.
+#[tactic(auto, unfolding(machine::specs::Level::security_level))]
 pub fn security_level(responder: Responder) -> SecurityLevel
     ensures { result ≡ security_level responder.state }
 {
-    let state = responder.state;
-    let held = state.bond;
-    let bond = held.bond;
-    let level = bond.level;
     if is_encrypted(responder) {
-        if held.there {
-            return level;
-        }
-        return SecurityLevel::NoEncryption;
+        let held = responder.state.bond;
+        return held.map_or(SecurityLevel::NoEncryption, |bond| bond.level);
     }
     SecurityLevel::NoEncryption
 }
 
 // The bond, if there is one.
-pub fn bond_information(responder: Responder) -> MaybeBond
+pub fn bond_information(responder: Responder) -> Option<Bond>
     ensures { result ≡ responder.state.bond }
 {
-    let state = responder.state;
-    let bond = state.bond;
-    bond
+    responder.state.bond
 }
 
 // The peer's address: that of the connection, and its identity address once that has come.
 pub fn peer_address(responder: Responder) -> Address
     ensures { result ≡ responder.state.peer }
 {
-    let state = responder.state;
-    let peer = state.peer;
-    peer
+    responder.state.peer
 }
 
 fn encrypted_in(phase: Phase) -> bool
     ensures { result ≡ encrypted phase }
 {
-    match phase {
-        Phase::WaitingIdentitityInformation => true,
-        Phase::WaitingIdentitityAddressInformation => true,
-        Phase::Success => true,
-        _ => false,
-    }
+    matches!(
+        phase,
+        Phase::WaitingIdentitityInformation
+            | Phase::WaitingIdentitityAddressInformation
+            | Phase::Success
+    )
 }
 
 fn result_of(phase: Phase) -> PairingResult

@@ -10,7 +10,7 @@ use Rattle.responder.proofs.Responder.mark_timeout.Reads as mark-timeout
 pub command_settled : Settles command.Post (λ κs e. e.1.1.1.0.now)
 command_settled κs a z z' e e' p q = only_met p q
 
-pub event_settled : Settles event.Post (λ κs e. e.1.1.1.1.0.now)
+pub event_settled : Settles event.Post (λ κs e. e.1.1.1.0.now)
 event_settled κs a z z' e e' p q = only_met p q
 
 pub command_question_unique : Unique command-question.Post

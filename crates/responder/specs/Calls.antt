@@ -1,7 +1,6 @@
 -- A call as the responder's methods have it, and what they give back.
 use Rattle.std.specs.Prelude.{ℕ, List}
 use Rattle.protocol.specs.declared.Event.{Event}
-use Rattle.protocol.specs.declared.OobData.{OobData}
 use Rattle.protocol.specs.declared.Setup.{Setup}
 use Rattle.protocol.specs.declared.Supplied.{Supplied}
 use Rattle.protocol.specs.Role.{Call, command, event, Outcome}
@@ -15,8 +14,8 @@ use Rattle.responder.specs.declared.Stepped.{Stepped}
 abbrev pub command_call : List ℕ → Supplied → ℕ → Call
 command_call cmd a n = record { input = command cmd; supplied = a; room = n }
 
-abbrev pub event_call : Event → OobData → Supplied → ℕ → Call
-event_call e o a n = record { input = event e o; supplied = a; room = n }
+abbrev pub event_call : Event → Supplied → ℕ → Call
+event_call e a n = record { input = event e; supplied = a; room = n }
 
 -- a state, as a responder
 abbrev pub responder_of : State → Responder

@@ -11,9 +11,7 @@ ghost use Rattle.machine.specs.Responder.{responder};
 ghost use Rattle.responder.specs.Calls.{command_call, event_call, responder_of, stepped_of, handed_of};
 
 use machine::{Phase, State, Step};
-use protocol::{
-    Action, Answer, ConnectionEvent, Event, Failure, Given, OobData, Question, Supplied,
-};
+use protocol::{Action, Answer, ConnectionEvent, Event, Failure, Given, Question, Supplied};
 
 #[derive(Clone, Copy)]
 pub struct Responder {
@@ -24,9 +22,9 @@ pub struct Responder {
 pub struct Stepped {
     pub responder: Responder,
     pub sent: usize,
-    pub first: ConnectionEvent,
-    pub second: ConnectionEvent,
-    pub action: Action,
+    pub first: Option<ConnectionEvent>,
+    pub second: Option<ConnectionEvent>,
+    pub action: Option<Action>,
     pub answer: Answer,
 }
 
@@ -35,52 +33,43 @@ impl Responder {
     pub fn command(self, cmd: &[u8], supplied: Supplied, out: &mut [u8]) -> Stepped
         ensures { Met stepped_of channel (step responder self.state (command_call cmd.now supplied (length out.old))) result out.old out.new }
     {
-        let state = self.state;
-        handed_back(self, front::on_command(state, cmd, supplied, out))
+        handed_back(self, front::on_command(self.state, cmd, supplied, out))
     }
 
-    // An event from the user or the link, with the out-of-band values beside it.
-    pub fn event(self, came: Event, values: OobData, supplied: Supplied, out: &mut [u8]) -> Stepped
-        ensures { Met stepped_of channel (step responder self.state (event_call came values supplied (length out.old))) result out.old out.new }
+    // An event from the user or the link.
+    pub fn event(self, came: Event, supplied: Supplied, out: &mut [u8]) -> Stepped
+        ensures { Met stepped_of channel (step responder self.state (event_call came supplied (length out.old))) result out.old out.new }
     {
-        let state = self.state;
-        handed_back(self, front::on_event(state, came, values, supplied, out))
+        handed_back(self, front::on_event(self.state, came, supplied, out))
     }
 
-    // The next question that a command asks, given the answers so far.
-    pub fn command_question(self, cmd: &[u8], supplied: Supplied, given: Given) -> Question
+    // The next question that a command asks, given the answers so far; none where it has all.
+    pub fn command_question(self, cmd: &[u8], supplied: Supplied, given: Given) -> Option<Question>
         ensures { result ≡ next_of given (questions responder self.state (command cmd.now) supplied) }
     {
-        let state = self.state;
-        questions::of_command(state, cmd, supplied, given)
+        questions::of_command(self.state, cmd, supplied, given)
     }
 
-    // The next question that an event asks, given the answers so far.
-    pub fn event_question(
-        self,
-        came: Event,
-        values: OobData,
-        supplied: Supplied,
-        given: Given,
-    ) -> Question
-        ensures { result ≡ next_of given (questions responder self.state (event came values) supplied) }
+    // The next question that an event asks, given the answers so far; none where it has all.
+    pub fn event_question(self, came: Event, supplied: Supplied, given: Given) -> Option<Question>
+        ensures { result ≡ next_of given (questions responder self.state (event came) supplied) }
     {
-        let state = self.state;
-        questions::of_event(state, came, values, supplied, given)
+        questions::of_event(self.state, came, supplied, given)
     }
 
     // Thirty seconds passed with nothing taken: the pairing fails, unless it is finished. This is no input and raises no event.
+    #[tactic(auto, unfolding(protocol::specs::Role::timed_out))]
     pub fn mark_timeout(self) -> Responder
         ensures { result ≡ responder_of (timed_out responder self.state) }
     {
-        let state = self.state;
-        if states::finished(state) {
+        if states::finished(self.state) {
             return self;
         }
-        let setup = state.setup;
-        let ended = states::at(state, Phase::Error(Failure::Timeout));
         Responder {
-            state: states::joined(setup, ended),
+            state: State {
+                phase: Phase::Error(Failure::Timeout),
+                ..self.state
+            },
         }
     }
 }
@@ -89,21 +78,14 @@ impl Responder {
 fn handed_back(before: Responder, done: Step) -> Stepped
     ensures { result ≡ handed_of before.state.setup done }
 {
-    let state = before.state;
-    let setup = state.setup;
-    let progress = done.progress;
-    let first = done.first;
-    let second = done.second;
-    let action = done.action;
-    let answer = done.answer;
     Stepped {
         responder: Responder {
-            state: states::joined(setup, progress),
+            state: states::joined(before.state.setup, done.progress),
         },
         sent: done.sent,
-        first,
-        second,
-        action,
-        answer,
+        first: done.first,
+        second: done.second,
+        action: done.action,
+        answer: done.answer,
     }
 }

@@ -8,28 +8,23 @@ ghost use Rattle.wrapper.specs.Starts.{begun_of, started_of, Opened, suits, star
 use features::{IoCapabilities, PairingFeatures, UseOutOfBand};
 use machine::{Phase, State};
 use method::{PairingMethod, SecurityLevel};
-use protocol::{Configured, Failure, MaybeBond, Refusal, Setup};
+use protocol::{Failure, Refusal, Setup};
 use responder::Responder;
 
-#[derive(Clone, Copy)]
-pub enum Start {
-    Started,
-    Refused(Refusal),
-}
-
+// `answer` says whether the start was refused.
 #[derive(Clone, Copy)]
 pub struct Begun {
     pub responder: Responder,
     pub sent: usize,
-    pub answer: Start,
+    pub answer: Result<(), Refusal>,
 }
 
 // A responder that awaits a request. A configured passkey out of range is refused: here alone a setup is tested.
+#[tactic(auto, unfolding(crate::specs::Starts::starting))]
 pub fn new_peripheral(setup: Setup) -> Begun
     ensures { result ≡ begun_of (start_of setup) 0 }
 {
-    let configured = setup.passkey;
-    if suitable(configured) {
+    if suitable(setup.passkey) {
         return running(fresh(setup), 0);
     }
     refused(setup, Refusal::PasskeyRange)
@@ -43,26 +38,23 @@ pub fn initiate_peripheral(setup: Setup, user: bool, out: &mut [u8]) -> Begun
         return refused(setup, Refusal::OutboxShort);
     }
     let begun = new_peripheral(setup);
-    let answer = begun.answer;
-    match answer {
-        Start::Started => {
-            let sent = frames::security_request(
-                out,
-                features::auth_req(setup.bonding, asks_mitm(setup, user)),
-            );
-            let mut asked = begun;
-            asked.sent = sent;
-            asked
+    match begun.answer {
+        Ok(()) => {
+            let authreq = features::auth_req(setup.bonding, asks_mitm(setup, user));
+            Begun {
+                sent: frames::security_request(out, authreq),
+                ..begun
+            }
         }
-        Start::Refused(_refusal) => begun,
+        Err(_refusal) => begun,
     }
 }
 
 // A fresh machine: no peer features, no key distribution bits, method JustWorks, key size 16.
+#[tactic(auto, unfolding(octets::specs::Octets::zeros))]
 fn fresh(setup: Setup) -> State
     ensures { result ≡ fresh_state setup }
 {
-    let peer = setup.peer;
     State {
         phase: Phase::WaitingPairingRequest,
         setup,
@@ -75,12 +67,9 @@ fn fresh(setup: Setup) -> State
             responder: 0,
         },
         method: PairingMethod::JustWorks,
-        secrets: states::fresh_secrets([0u8; 32], [0u8; 32]),
-        bond: MaybeBond {
-            there: false,
-            bond: states::no_bond(),
-        },
-        peer,
+        secrets: states::fresh_secrets([0; 32], [0; 32]),
+        bond: None,
+        peer: setup.peer,
     }
 }
 
@@ -90,56 +79,46 @@ fn running(state: State, sent: usize) -> Begun
     Begun {
         responder: Responder { state },
         sent,
-        answer: Start::Started,
+        answer: Ok(()),
     }
 }
 
 // A refused start gives a machine in Error that takes nothing.
+#[tactic(auto, unfolding(crate::specs::Starts::start_refused))]
 fn refused(setup: Setup, refusal: Refusal) -> Begun
     ensures { result ≡ begun_of (start_refused setup refusal) 0 }
 {
-    let state = fresh(setup);
-    let ended = states::at(state, Phase::Error(Failure::InvalidState));
+    let state = State {
+        phase: Phase::Error(Failure::InvalidState),
+        ..fresh(setup)
+    };
     Begun {
-        responder: Responder {
-            state: states::joined(setup, ended),
-        },
+        responder: Responder { state },
         sent: 0,
-        answer: Start::Refused(refusal),
+        answer: Err(refusal),
     }
 }
 
-fn suitable(configured: Configured) -> bool
+fn suitable(configured: Option<u32>) -> bool
     ensures { result ≡ suits configured }
 {
     match configured {
-        Configured::Nothing => true,
-        Configured::Passkey(passkey) => rounds::in_range(passkey),
+        Some(passkey) => rounds::in_range(passkey),
+        None => true,
     }
 }
 
 fn asks_mitm(setup: Setup, user: bool) -> bool
     ensures { result ≡ asks_mitm setup user }
 {
-    let io = setup.io;
-    let known = setup.known;
-    let bond = known.bond;
-    let level = bond.level;
-    if user {
-        return request::interactive_io(io);
+    match setup.known {
+        Some(bond) if !user => is_authenticated(bond.level),
+        _ => request::interactive_io(setup.io),
     }
-    if known.there {
-        return is_authenticated(level);
-    }
-    request::interactive_io(io)
 }
 
 fn is_authenticated(level: SecurityLevel) -> bool
     ensures { result ≡ authenticated level }
 {
-    match level {
-        SecurityLevel::NoEncryption => false,
-        SecurityLevel::Encrypted => false,
-        SecurityLevel::EncryptedAuthenticated => true,
-    }
+    level == SecurityLevel::EncryptedAuthenticated
 }

@@ -7,11 +7,11 @@ use Rattle.wrapper.proofs.initiate_peripheral.Goals as goal
 pub returns-then-out-lt-ENOUGH : goal.returns-then-out-lt-ENOUGH
 returns-then-out-lt-ENOUGH c = short_start _ _ _ c.if-out-lt-ENOUGH.true c.refused.ensures
 
-pub returns-in-Started : goal.returns-in-Started
-returns-in-Started c =
+pub returns-in-Ok : goal.returns-in-Ok
+returns-in-Ok c =
     let bonding = c.args.setup.bonding in
-    opens _ _ _ c.if-out-lt-ENOUGH.false c.new_peripheral-begun.ensures c.in-Started.is _
-    (c.auth_req.ensures ∙ ap (our_auth_req bonding) c.asks_mitm.ensures) c.security_request-sent.ensures
+    opens _ _ _ c.if-out-lt-ENOUGH.false c.new_peripheral-begun.ensures c.in-Ok.is _
+    (c.auth_req-authreq.ensures ∙ ap (our_auth_req bonding) c.asks_mitm.ensures) c.security_request.ensures
 
-pub returns-in-Refused : goal.returns-in-Refused
-returns-in-Refused c = unfit_start _ _ _ c.if-out-lt-ENOUGH.false c.new_peripheral-begun.ensures c.in-Refused.is
+pub returns-in-Err : goal.returns-in-Err
+returns-in-Err c = unfit_start _ _ _ c.if-out-lt-ENOUGH.false c.new_peripheral-begun.ensures c.in-Err.is
