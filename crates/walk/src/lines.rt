@@ -5,7 +5,7 @@ use crate::text::OrDash;
 use protocol::{Action, Answer, Question};
 use responder::{Responder, Stepped};
 use std::fmt;
-use wrapper::{Begun, Start};
+use wrapper::Begun;
 
 // Why the walk stops.
 #[derive(Clone, Copy, Debug, PartialEq, Eq)]
@@ -43,8 +43,8 @@ pub(crate) struct Line {
 impl Line {
     pub(crate) fn setup(begun: Begun, outbox: [u8; 512]) -> Line {
         let said = match begun.answer {
-            Start::Started => Said::Started,
-            Start::Refused(refusal) => Said::Answer(Answer::Refused(refusal)),
+            Ok(()) => Said::Started,
+            Err(refusal) => Said::Answer(Answer::Refused(refusal)),
         };
         Line {
             outbox,

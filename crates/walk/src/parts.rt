@@ -147,12 +147,7 @@ pub(crate) struct At(pub(crate) Address);
 
 impl fmt::Display for At {
     fn fmt<W: fmt::Write>(&self, f: &mut fmt::Formatter<W>) -> fmt::Result {
-        write!(
-            f,
-            "{:02x}{}",
-            u8::from(self.0.kind),
-            Hex(&self.0.octets)
-        )
+        write!(f, "{:02x}{}", u8::from(self.0.kind), Hex(&self.0.octets))
     }
 }
 
@@ -163,8 +158,8 @@ pub(crate) struct Asked(pub(crate) Question);
 impl fmt::Display for Asked {
     fn fmt<W: fmt::Write>(&self, f: &mut fmt::Formatter<W>) -> fmt::Result {
         f.write_str(names::question(self.0))?;
-        match self.0 {
-            Question::DH { x, y } => write!(f, ":{}:{}", Hex(&x), Hex(&y)),
+        match &self.0 {
+            Question::DH { x, y } => write!(f, ":{}:{}", Hex(x), Hex(y)),
             Question::OwnConfirm(of) | Question::PeerConfirm(of) => write!(
                 f,
                 ":{}:{}:{}:{:02x}",
@@ -176,21 +171,21 @@ impl fmt::Display for Asked {
             Question::G2 { u, v, x, y } => write!(
                 f,
                 ":{}:{}:{}:{}",
-                Hex(&u),
-                Hex(&v),
-                Hex(&x),
-                Hex(&y)
+                Hex(u),
+                Hex(v),
+                Hex(x),
+                Hex(y)
             ),
             Question::F5 { w, n1, n2, a1, a2 } => write!(
                 f,
                 ":{}:{}:{}:{}:{}",
-                Hex(&w),
-                Hex(&n1),
-                Hex(&n2),
-                At(a1),
-                At(a2)
+                Hex(w),
+                Hex(n1),
+                Hex(n2),
+                At(*a1),
+                At(*a2)
             ),
-            Question::PeerCheck(of) | Question::OwnCheck(of) => write!(f, "{}", CheckValue(of)),
+            Question::PeerCheck(of) | Question::OwnCheck(of) => write!(f, "{}", CheckValue(*of)),
         }
     }
 }

@@ -7,7 +7,7 @@ use calls::{Kind, SetupCall, StartKind};
 use protocol::Answer;
 use responder::{Responder, Stepped};
 use std::io;
-use wrapper::{Begun, Start};
+use wrapper::Begun;
 
 // Where a command begins in the payload of its record.
 const COMMAND: usize = 156;
@@ -143,8 +143,8 @@ fn setup(payload: &[u8]) -> Result<(Latest, Line), Fault> {
     let latest = Latest {
         responder: begun.responder,
         answer: match begun.answer {
-            Start::Started => Answer::Taken,
-            Start::Refused(refusal) => Answer::Refused(refusal),
+            Ok(()) => Answer::Taken,
+            Err(refusal) => Answer::Refused(refusal),
         },
     };
     Ok((latest, Line::setup(begun, outbox)))

@@ -66,6 +66,11 @@ impl fmt::Display for View {
             OrDash(self.held())
         )?;
         write!(f, " level={}", names::level(self.level))?;
-        write!(f, " bond={} peer={}", OrDash(self.bond.map(Held)), At(self.peer))
+        write!(
+            f,
+            " bond={} peer={}",
+            OrDash(self.bond.map(Held)),
+            At(self.peer)
+        )
     }
 }
