@@ -1,14 +1,10 @@
 -- What the last arm of a match takes: a phase, an event and a method of which nothing is asked. Assumes nothing.
 use Rattle.std.specs.Prelude.{Option, Some, None, Result, Ok, Err}
-use Rattle.std.specs.Option.{option_or}
-use Rattle.std.specs.Result.{result_ok}
 use Prim.Native.Nat.{ℕ}
-use mathlib.Core.Path.{◌≡◌, refl, ap, ◌∙◌}
+use mathlib.Core.Path.{◌≡◌, refl}
 use mathlib.Core.Logic.{◌⊎◌, inl, inr}
-use mathlib.Core.List.{List, [], ◌∷◌}
-use mathlib.Core.Bool.{Bool, true, false, cond, ◌&&◌}
-use native.Mathlib.Omega.{arith}
-use Rattle.octets.specs.Octets.{same}
+use mathlib.Core.List.{List}
+use mathlib.Core.Bool.{Bool}
 use Rattle.features.specs.declared.PairingFeatures.{PairingFeatures}
 use Rattle.method.specs.declared.PairingMethod.{PairingMethod}
 use Rattle.method.specs.declared.PairingMethod.TheVariants.{JustWorks, NumericComparison, PassKeyEntry, OutOfBand}
@@ -16,23 +12,20 @@ use Rattle.method.specs.declared.PassKeyEntryAction.TheVariants as W
 use Rattle.protocol.specs.declared.Event.{Event}
 use Rattle.protocol.specs.declared.Event.TheVariants as I
 use Rattle.protocol.specs.declared.Failure.{Failure}
-use Rattle.protocol.specs.declared.Failure.TheVariants as F
 use Rattle.protocol.specs.declared.Given.{Given}
 use Rattle.protocol.specs.declared.OobData.{OobData}
 use Rattle.protocol.specs.declared.Question.{Question}
 use Rattle.protocol.specs.declared.Secrets.{Secrets}
 use Rattle.protocol.specs.declared.Supplied.{Supplied}
-use Rattle.protocol.specs.Plan.{Plan, kind_of, Reply, ends, asks, reply, asked, needs}
-use Rattle.protocol.specs.Parts.{accept_of, accepting, shown, verdict_of}
-use Rattle.protocol.specs.Next.{known, next_of, Queried}
-use Rattle.protocol.proofs.Follows.{awaited_size, awaited_value}
-use Rattle.protocol.proofs.Next.{asks_nothing, draws, draws_passkey_lem, either, wrong_asks, awaited_asks}
+use Rattle.protocol.specs.Plan.{ends}
+use Rattle.protocol.specs.Parts.{accept_of, accepting, shown}
+use Rattle.protocol.specs.Next.{Queried}
+use Rattle.protocol.proofs.Next.{asks_nothing, draws, draws_passkey_lem, either}
 use Rattle.machine.specs.declared.Phase.{Phase}
 use Rattle.machine.specs.declared.Phase.TheVariants as P
 use Rattle.machine.specs.declared.State.{State}
 use Rattle.machine.specs.Request.{lost, responding}
 use Rattle.machine.specs.Exchange.{comparing, begins, showing}
-use Rattle.machine.specs.Dhkey.{ask_keys, ask_peer_check, ask_own_check, checking}
 use Rattle.machine.specs.Numeric.{numbering, compares, on_comparison}
 use Rattle.machine.specs.Passkey.{on_typing}
 use Rattle.machine.specs.Oob.{on_oob_data}
@@ -123,66 +116,6 @@ module _ (g : Given) (a : Supplied) (r : Option Question) (none : r ≡ None) wh
   key_other (PassKeyEntry central W.Display) m s n1 n2 = showed m.setup.passkey m s
   key_other (PassKeyEntry central W.Input) m s n1 n2 = asks_nothing none
   key_other OutOfBand m s n1 n2 = asks_nothing none
-
--- A command's payload, judged by its Result
-
-told_value : {A : Type 0} {v : Result A Failure} {y : A} → result_ok v ≡ Some y → v ≡ Ok y
-told_value {v = Ok x} e = cc
-told_value {v = Err x} e = let z : ◌≡◌ {A = ℕ} 0 1 = cc in absurd (omega arith)
-
-module _ {S : Type 0} {g : Given} {a : Supplied} {r : Option Question} {A : Type 0} {b d : Bool} {f : Failure} where
-  pub unheard : (x : A) {v : Result A Failure} {q : Plan S} → v ≡ verdict_of b d f x → result_ok v ≡ None → r ≡ None → Queried g a (needs b F.InvalidState (needs d f q)) r
-  unheard x {v = Ok y} e w h = let z : ◌≡◌ {A = ℕ} 0 1 = cc in absurd (omega arith)
-  unheard x {v = Err y} e w h = wrong_asks x e refl h
-
-  pub heard : (x : A) {v : Result A Failure} {y : A} {q : Plan S} → v ≡ verdict_of b d f x → result_ok v ≡ Some y → Queried g a q r → Queried g a (needs b F.InvalidState (needs d f q)) r
-  heard x e w h = awaited_asks x e (told_value w) h
-
-pub heard_value : {A : Type 0} (b d : Bool) (f : Failure) {x : A} {v : Result A Failure} {y : A} → v ≡ verdict_of b d f x → result_ok v ≡ Some y → y ≡ x
-heard_value b d f e w = awaited_value b d f e (told_value w)
-
-pub heard_size : {A : Type 0} (b d : Bool) (f : Failure) (x : A) {v : Result A Failure} {y : A} → v ≡ verdict_of b d f x → result_ok v ≡ Some y → d ≡ true
-heard_size b d f x e w = awaited_size b d f x e (told_value w)
-
--- One question, or what is asked after it
-module _ {S : Type 0} {g : Given} {a : Supplied} {r rest : Option Question} where
-  pub asks_or : {q : Question} {k : Reply (kind_of q) → Plan S} → Queried g a (k (reply a (kind_of q))) rest → r ≡ option_or (cond (known g (kind_of q)) None (Some q)) rest
-      → Queried g a (asks q k) r
-  unfolding next_of asked
-  asks_or {q} {k} i h = record { next = h ∙ go (known g (kind_of q)) i.next }
-    where
-      go : (b : Bool) → rest ≡ next_of g (asked a (k (reply a (kind_of q)))) → option_or (cond b None (Some q)) rest ≡ cond b (next_of g (asked a (k (reply a (kind_of q))))) (Some q)
-      go true e = e
-      go false e = refl
-
--- two questions in order
-pub asks_both : (g : Given) (q p : Question) {r : Option Question} → r ≡ option_or (cond (known g (kind_of q)) None (Some q)) (cond (known g (kind_of p)) None (Some p))
-    → r ≡ next_of g (q ∷ p ∷ [])
-unfolding next_of
-asks_both g q p h = h ∙ go (known g (kind_of q))
-  where
-    go : (b : Bool) → option_or (cond b None (Some q)) (cond (known g (kind_of p)) None (Some p)) ≡ cond b (cond (known g (kind_of p)) None (Some p)) (Some q)
-    go true = refl
-    go false = refl
-
--- A check, wrong and right
-module _ (m : State) {g : Given} {a : Supplied} {r two : Option Question} (e : two ≡ next_of g (ask_keys m ∷ ask_peer_check m a.mackey ∷ [])) where
-  pub wrong_check : (b : Bool) (v : List ℕ) → b && same v a.peercheck ≡ false → r ≡ two → Queried g a (checking m b v) r
-  unfolding next_of asked
-  wrong_check b v s h = record { next = rw s (h ∙ e) }
-
-  pub right_check : (v : List ℕ) → same v a.peercheck ≡ true → r ≡ option_or two (cond g.owncheck None (Some (ask_own_check m a.mackey))) → Queried g a (checking m true v) r
-  unfolding next_of asked
-  right_check v s h = record { next = rw s (h ∙ ap (λ x. option_or x (cond g.owncheck None (Some (ask_own_check m a.mackey)))) e ∙ go g.f5 g.peercheck) }
-    where
-      own : Option Question
-      own = cond g.owncheck None (Some (ask_own_check m a.mackey))
-
-      go : (b d : Bool) → option_or (cond b (cond d None (Some (ask_peer_check m a.mackey))) (Some (ask_keys m))) own
-          ≡ cond b (cond d own (Some (ask_peer_check m a.mackey))) (Some (ask_keys m))
-      go true true = refl
-      go true false = refl
-      go false d = refl
 
 -- Just Works and numeric comparison begin alike
 pub key_comparing : {g : Given} {a : Supplied} {r : Option Question} (x : PairingMethod) (m : State) (s : Secrets) → (x ≡ JustWorks) ⊎ (x ≡ NumericComparison)

@@ -5,7 +5,7 @@ use mathlib.Core.Path.{refl, sym, ◌∙◌}
 use borrow.Author.Tests.{eqb-true, eq-eqb, ne_eqb}
 use Rattle.octets.proofs.Octets.{turned_whole}
 use Rattle.protocol.proofs.Next.{asks_nothing, passed, stopped}
-use Rattle.questions.proofs.Other.{wrong_check}
+use Rattle.questions.proofs.Asks.{wrong_check}
 use Rattle.questions.proofs.Query.check.Goals as goal
 
 pub returns-then-code-ne-DHKEY_CHECK : goal.returns-then-code-ne-DHKEY_CHECK

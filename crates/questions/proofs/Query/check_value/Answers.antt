@@ -1,7 +1,7 @@
 -- `questions::Query::check_value` meets its contract. Assumes nothing.
 use mathlib.Core.Bool.{true}
 use mathlib.Core.Path.{refl, sym, ◌∙◌}
-use Rattle.questions.proofs.Other.{right_check, wrong_check}
+use Rattle.questions.proofs.Asks.{right_check, wrong_check}
 use Rattle.questions.proofs.Query.check_value.Goals as goal
 
 pub returns-then-equal : goal.returns-then-equal

@@ -1,7 +1,8 @@
 -- `questions::Query::comparison` meets its contract. Assumes nothing.
 use mathlib.Core.Path.{refl, sym, ◌∙◌}
 use Rattle.protocol.proofs.Next.{asks_nothing}
-use Rattle.questions.proofs.Other.{heard, heard_value, unheard, compare_other}
+use Rattle.questions.proofs.Asks.{heard, heard_value, unheard}
+use Rattle.questions.proofs.Other.{compare_other}
 use Rattle.questions.proofs.Query.comparison.Goals as goal
 
 pub returns-in_err-nonce : goal.returns-in_err-nonce

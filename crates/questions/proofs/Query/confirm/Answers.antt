@@ -1,6 +1,6 @@
 -- `questions::Query::confirm` meets its contract. Assumes nothing.
 use mathlib.Core.Path.{sym, ◌∙◌}
-use Rattle.questions.proofs.Other.{heard, unheard}
+use Rattle.questions.proofs.Asks.{heard, unheard}
 use Rattle.questions.proofs.Query.confirm.Goals as goal
 
 pub returns-in_err-ok : goal.returns-in_err-ok

@@ -1,7 +1,7 @@
 -- `questions::Query::key` meets its contract. Assumes nothing.
 use mathlib.Core.Path.{sym, ◌∙◌}
 use Rattle.protocol.proofs.Follows.{read_x, read_y}
-use Rattle.questions.proofs.Other.{heard, heard_size, unheard, asks_or}
+use Rattle.questions.proofs.Asks.{heard, heard_size, unheard, asks_or}
 use Rattle.questions.proofs.Query.key.Goals as goal
 
 pub returns-in_err-ok : goal.returns-in_err-ok

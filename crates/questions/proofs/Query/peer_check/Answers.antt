@@ -1,5 +1,5 @@
 -- `questions::Query::peer_check` meets its contract. Assumes nothing.
-use Rattle.questions.proofs.Other.{asks_both}
+use Rattle.questions.proofs.Asks.{asks_both}
 use Rattle.questions.proofs.Query.peer_check.Goals as goal
 
 pub returns : goal.returns

@@ -1,6 +1,6 @@
 -- `questions::Query::random` meets its contract. Assumes nothing.
 use mathlib.Core.Path.{sym, ◌∙◌}
-use Rattle.questions.proofs.Other.{heard, heard_value, unheard}
+use Rattle.questions.proofs.Asks.{heard, heard_value, unheard}
 use Rattle.questions.proofs.Query.random.Goals as goal
 
 pub returns-in_err-nonce : goal.returns-in_err-nonce
