@@ -32,7 +32,7 @@ use Rattle.protocol.specs.declared.Secrets.{Secrets}
 use Rattle.protocol.specs.declared.Supplied.{Supplied}
 use Rattle.protocol.specs.Plan.{Plan, Ending, ends, goes, refuses, fails, runs, Along, nowhere}
 use Rattle.protocol.specs.Parts.{key_x, is_value, accept_of, accepting, shown}
-use Rattle.protocol.specs.Exchanged.{fresh, set_nonces, set_held}
+use Rattle.protocol.specs.Exchanged.{fresh, set_nonces}
 use Rattle.protocol.specs.Role.{Call, command, event, ranged, enough, said, plan, run}
 use Rattle.protocol.proofs.Runs as Runs
 use Rattle.protocol.proofs.Walk.{walk}
@@ -66,14 +66,14 @@ pub data Awaited (m : State) (c : Call) : Phase → Plan State → Type 0 where
   key : {w : List ℕ} → Key w c → Awaited m c P.WaitingPublicKey (begins m.method m (exchanged w c))
   compared : {w : List ℕ} → Value random_code w c → Awaited m c P.WaitingNumericComparisonRandom (compares m.method m (flip w))
   early_check : {w : List ℕ} → Value check_code w c
-      → Awaited m c (P.WaitingNumericComparisonResult false) (ends (goes (to m (P.WaitingNumericComparisonResult true) (set_held m.secrets (flip w))) [] None))
-  yes : Raises I.PassKeyConfirm c → Awaited m c (P.WaitingNumericComparisonResult false) (confirmed m false)
-  yes_held : Raises I.PassKeyConfirm c → m.secrets.held ≡ c.supplied.peercheck
-      → Awaited m c (P.WaitingNumericComparisonResult true) (ends (checked m c.supplied.ltk c.supplied.owncheck))
+      → Awaited m c (P.WaitingNumericComparisonResult None) (ends (goes (at m (P.WaitingNumericComparisonResult (Some (flip w)))) [] None))
+  yes : Raises I.PassKeyConfirm c → Awaited m c (P.WaitingNumericComparisonResult None) (confirmed m None)
+  yes_held : {v : List ℕ} → Raises I.PassKeyConfirm c → v ≡ c.supplied.peercheck
+      → Awaited m c (P.WaitingNumericComparisonResult (Some v)) (ends (checked m c.supplied.ltk c.supplied.owncheck))
   early_confirm : {v : List ℕ} → Value confirm_code v c
-      → Awaited m c (P.WaitingPassKeyInput false) (ends (goes (to m (P.WaitingPassKeyInput true) (set_held m.secrets (flip v))) [] None))
-  passkey : {p : ℕ} → Typed p c → Awaited m c (P.WaitingPassKeyInput false) (typed m false p)
-  passkey_held : {p : ℕ} → Typed p c → Awaited m c (P.WaitingPassKeyInput true) (typed m true p)
+      → Awaited m c (P.WaitingPassKeyInput None) (ends (goes (at m (P.WaitingPassKeyInput (Some (flip v)))) [] None))
+  passkey : {p : ℕ} → Typed p c → Awaited m c (P.WaitingPassKeyInput None) (typed m None p)
+  passkey_held : {p : ℕ} {v : List ℕ} → Typed p c → Awaited m c (P.WaitingPassKeyInput (Some v)) (typed m (Some v) p)
   confirm : {r : ℕ} {v : List ℕ} → Value confirm_code v c → Awaited m c (P.WaitingPassKeyEntryConfirm r) (confirming m m.secrets r (flip v))
   random : {r : ℕ} {w : List ℕ} → Matching m.secrets.confirm w c → Awaited m c (P.WaitingPassKeyEntryRandom r) (ends (matched m r (flip w)))
   oob_data : (o : OobData) → c.input ≡ event (I.OobDataReceived o) → (absent o || same o.peerconfirm c.supplied.peerconfirm) ≡ true
@@ -149,11 +149,11 @@ module _ (c : Call) (H : Ending State → Type 0) (stay : (r : Refusal) → H (r
     on_command_lem P.WaitingPairingRequest g = (λ e. asked (accept_of w) refl e (λ f a. g _ (request a)), λ e. fail _ _)
     on_command_lem P.WaitingPublicKey g = (λ e. (λ l. (λ v. g _ (key (record { brings = brought _ e; whole = l; valid = v })), λ v. fail _ _), λ l. fail _ _), λ e. fail _ _)
     on_command_lem P.WaitingNumericComparisonRandom g = valued random_code (λ k. g _ (compared k))
-    on_command_lem (P.WaitingNumericComparisonResult true) g = (λ e. (λ h. clash (cc), λ h. fail _ _), λ e. fail _ _)
-    on_command_lem (P.WaitingNumericComparisonResult false) g =
+    on_command_lem (P.WaitingNumericComparisonResult (Some v)) g = (λ e. (λ h. clash (cc), λ h. fail _ _), λ e. fail _ _)
+    on_command_lem (P.WaitingNumericComparisonResult None) g =
         (λ e. (λ h. (λ l. g _ (early_check (record { brings = brought _ e; whole = l })), λ l. fail _ _), λ h. fail _ _), λ e. fail _ _)
-    on_command_lem (P.WaitingPassKeyInput true) g = (λ e. (λ h. clash (cc), λ h. fail _ _), λ e. fail _ _)
-    on_command_lem (P.WaitingPassKeyInput false) g =
+    on_command_lem (P.WaitingPassKeyInput (Some v)) g = (λ e. (λ h. clash (cc), λ h. fail _ _), λ e. fail _ _)
+    on_command_lem (P.WaitingPassKeyInput None) g =
         (λ e. (λ h. (λ l. g _ (early_confirm (record { brings = brought _ e; whole = l })), λ l. fail _ _), λ h. fail _ _), λ e. fail _ _)
     on_command_lem (P.WaitingPassKeyEntryConfirm r) g = valued confirm_code (λ k. g _ (confirm k))
     on_command_lem (P.WaitingPassKeyEntryRandom r) g = valued random_code (λ k. (λ e. g _ (random (record { random = k; equal = same_eq _ _ e })), λ e. fail _ _))
@@ -186,11 +186,11 @@ module _ (c : Call) (H : Ending State → Type 0) (stay : (r : Refusal) → H (r
   on_event_lem P.WaitingPairingRequest g = by_event P.WaitingPairingRequest (λ ok i. (λ t. g _ (bonded_link (rw (← t) i)), λ t. fail _ _)) (λ i. fail _ _) (fail _ _) (λ n t. fail _ _) (λ o i. fail _ _)
   on_event_lem P.WaitingPublicKey g = λ e i r. fail _ _
   on_event_lem P.WaitingNumericComparisonRandom g = λ e i r. fail _ _
-  on_event_lem (P.WaitingNumericComparisonResult true) g =
-      by_event (P.WaitingNumericComparisonResult true) (λ ok i. fail _ _) (λ i. (λ s. g _ (yes_held i (same_eq _ _ s)), λ s. fail _ _)) (fail _ _) (λ n t. fail _ _) (λ o i. fail _ _)
-  on_event_lem (P.WaitingNumericComparisonResult false) g = by_event (P.WaitingNumericComparisonResult false) (λ ok i. fail _ _) (λ i. g _ (yes i)) (fail _ _) (λ n t. fail _ _) (λ o i. fail _ _)
-  on_event_lem (P.WaitingPassKeyInput true) g = by_event (P.WaitingPassKeyInput true) (λ ok i. fail _ _) (λ i. fail _ _) (fail _ _) (λ n t. g _ (passkey_held t)) (λ o i. fail _ _)
-  on_event_lem (P.WaitingPassKeyInput false) g = by_event (P.WaitingPassKeyInput false) (λ ok i. fail _ _) (λ i. fail _ _) (fail _ _) (λ n t. g _ (passkey t)) (λ o i. fail _ _)
+  on_event_lem (P.WaitingNumericComparisonResult (Some v)) g =
+      by_event (P.WaitingNumericComparisonResult (Some v)) (λ ok i. fail _ _) (λ i. (λ s. g _ (yes_held i (same_eq _ _ s)), λ s. fail _ _)) (fail _ _) (λ n t. fail _ _) (λ o i. fail _ _)
+  on_event_lem (P.WaitingNumericComparisonResult None) g = by_event (P.WaitingNumericComparisonResult None) (λ ok i. fail _ _) (λ i. g _ (yes i)) (fail _ _) (λ n t. fail _ _) (λ o i. fail _ _)
+  on_event_lem (P.WaitingPassKeyInput (Some v)) g = by_event (P.WaitingPassKeyInput (Some v)) (λ ok i. fail _ _) (λ i. fail _ _) (fail _ _) (λ n t. g _ (passkey_held t)) (λ o i. fail _ _)
+  on_event_lem (P.WaitingPassKeyInput None) g = by_event (P.WaitingPassKeyInput None) (λ ok i. fail _ _) (λ i. fail _ _) (fail _ _) (λ n t. g _ (passkey t)) (λ o i. fail _ _)
   on_event_lem (P.WaitingPassKeyEntryConfirm round) g = λ e i r. fail _ _
   on_event_lem (P.WaitingPassKeyEntryRandom round) g = λ e i r. fail _ _
   on_event_lem P.WaitingOobData g =
@@ -224,7 +224,7 @@ any_round r X f g = go (ltb r 19) refl
 module _ (a : Supplied) (H : Ending State → Type 0) (m : State) where
   pub any_key : (s : Secrets) → H (refuses R.PasskeyRange) → (m.method ≡ OutOfBand → H (goes (to m P.WaitingOobData s) (own_key m ∷ []) (Some E.OobRequest)))
       → ((x : PassKeyEntryAction) (n : ℕ) → m.method ≡ PassKeyEntry x W.Display → Shows m.setup.passkey a.passkey n → H (showing m s n))
-      → ((x : PassKeyEntryAction) → m.method ≡ PassKeyEntry x W.Input → H (goes (to m (P.WaitingPassKeyInput false) s) (own_key m ∷ []) (Some E.PassKeyInput)))
+      → ((x : PassKeyEntryAction) → m.method ≡ PassKeyEntry x W.Input → H (goes (to m (P.WaitingPassKeyInput None) s) (own_key m ∷ []) (Some E.PassKeyInput)))
       → (m.method ≡ JustWorks → Along a H (comparing m s)) → (m.method ≡ NumericComparison → Along a H (comparing m s)) → Along a H (begins m.method m s)
   unfolding Along
   any_key s stay oob show type works number = go m.method refl

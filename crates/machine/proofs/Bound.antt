@@ -1,4 +1,5 @@
 -- A run takes at most 47 calls, and is finished by the 47th: each taken call lowers a rank. Assumes nothing.
+use Rattle.std.specs.Prelude.{Some, None}
 use Prim.Native.Nat.{ℕ, ◌+◌, ◌-◌, ◌*◌, ◌≤◌, ◌<◌}
 use mathlib.Core.Path.{◌≡◌, refl, ap, ◌∙◌}
 use mathlib.Core.List.{List, [], ◌∷◌}
@@ -39,10 +40,10 @@ abbrev further : PairingMethod → Phase → ℕ
 further x P.WaitingPairingRequest = 46
 further x P.WaitingPublicKey = longest x - 2
 further x P.WaitingNumericComparisonRandom = longest x - 3 + elsewhere x
-further x (P.WaitingNumericComparisonResult false) = 4
-further x (P.WaitingNumericComparisonResult true) = 3
-further x (P.WaitingPassKeyInput false) = 44
-further x (P.WaitingPassKeyInput true) = 43
+further x (P.WaitingNumericComparisonResult None) = 4
+further x (P.WaitingNumericComparisonResult (Some v)) = 3
+further x (P.WaitingPassKeyInput None) = 44
+further x (P.WaitingPassKeyInput (Some v)) = 43
 further x (P.WaitingPassKeyEntryConfirm r) = 5 + 2 * (19 - r)
 further x (P.WaitingPassKeyEntryRandom r) = 4 + 2 * (19 - r)
 further x P.WaitingOobData = 5 + elsewhere x

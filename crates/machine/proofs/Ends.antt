@@ -135,9 +135,9 @@ module _ (m : State) (u : finished_phase m.phase ≡ false) (a : Supplied) (n : 
 
   module _ (i : Input) where
     -- an early payload
-    holding : (b : Bool) (k code : ℕ) (body : List ℕ) (p : Phase) → finished_phase p ≡ false → Ends i (holds m b k code body p)
+    holding : (b : Option (List ℕ)) (k code : ℕ) (body : List ℕ) (p : Option (List ℕ) → Phase) → ((v : List ℕ) → finished_phase (p (Some v)) ≡ false) → Ends i (holds m b k code body p)
     unfolding Traced
-    holding b k code body p f = (λ _. (λ _. (λ _. moving tt tt refl Sends.nothing (Onward.goes f refl refl), λ _. falls refl), λ _. falls refl), λ _. falls refl)
+    holding b k code body p f = (λ _. (λ _. (λ _. moving tt tt refl Sends.nothing (Onward.goes (f _) refl refl), λ _. falls refl), λ _. falls refl), λ _. falls refl)
 
     -- a round's confirm
     answering : (s : Secrets) (r : ℕ) (v : List ℕ) → ReadsNonce m a i → Ends i (confirming m s r v)
@@ -158,10 +158,10 @@ module _ (m : State) (u : finished_phase m.phase ≡ false) (a : Supplied) (n : 
     weighing whole v = (λ _. moving (tt, (refl, (refl, tt))) tt refl Sends.check (Onward.goes refl refl refl), λ _. dies (inl refl) (tt, (refl, tt)) Asked.check)
 
     -- the user's yes
-    agreeing : (held : Bool) → Ends i (confirmed m held)
+    agreeing : (held : Option (List ℕ)) → Ends i (confirmed m held)
     unfolding Traced
-    agreeing true = weighing true m.secrets.held
-    agreeing false = moving tt tt refl Sends.nothing (Onward.goes refl refl refl)
+    agreeing (Some v) = weighing true v
+    agreeing None = moving tt tt refl Sends.nothing (Onward.goes refl refl refl)
 
     -- out-of-band data
     receives : (o : OobData) → Ends i (receiving m o)
@@ -177,10 +177,10 @@ module _ (m : State) (u : finished_phase m.phase ≡ false) (a : Supplied) (n : 
     encrypted b = (λ _. moving tt tt refl Sends.identity (Onward.goes refl refl refl), λ _. moving tt tt refl Sends.identity (Onward.succeeds refl))
 
   -- the passkey is typed
-  typing : (held : Bool) → m.phase ≡ P.WaitingPassKeyInput held → (p : ℕ) → in_range p ≡ true → Ends (event (I.PassKeyInput p)) (typed m held p)
+  typing : (held : Option (List ℕ)) → m.phase ≡ P.WaitingPassKeyInput held → (p : ℕ) → in_range p ≡ true → Ends (event (I.PassKeyInput p)) (typed m held p)
   unfolding Traced
-  typing true e p r = answering (event (I.PassKeyInput p)) (set_passkey m.secrets p) 0 m.secrets.held (ReadsNonce.typed e r)
-  typing false e p r = moving tt tt refl Sends.nothing (Onward.goes refl refl refl)
+  typing (Some v) e p r = answering (event (I.PassKeyInput p)) (set_passkey m.secrets p) 0 v (ReadsNonce.typed e r)
+  typing None e p r = moving tt tt refl Sends.nothing (Onward.goes refl refl refl)
 
   module _ (code : ℕ) (body : List ℕ) where
     losing : m.phase ≡ P.WaitingPairingRequest → eqb code request_code ≡ true → Before m (bring (command (code ∷ body)) a n) (lost m)
@@ -250,11 +250,11 @@ module _ (m : State) (u : finished_phase m.phase ≡ false) (a : Supplied) (n : 
   phased P.WaitingNumericComparisonRandom e =
       (λ code body. (λ _. (λ _. comparing _ m.method (flip body), λ _. falls refl), λ _. falls refl), λ x _. falls refl)
   phased (P.WaitingNumericComparisonResult held) e = (
-    λ code body. holding _ held check_code code body (P.WaitingNumericComparisonResult true) refl,
+    λ code body. holding _ held check_code code body P.WaitingNumericComparisonResult (λ v. refl),
     raised (P.WaitingNumericComparisonResult held) (λ ok _. falls refl, λ _. agreeing _ held, λ _. falls refl, λ p _. falls refl, λ o _. falls refl),
   )
   phased (P.WaitingPassKeyInput held) e = (
-    λ code body. holding _ held confirm_code code body (P.WaitingPassKeyInput true) refl,
+    λ code body. holding _ held confirm_code code body P.WaitingPassKeyInput (λ v. refl),
     raised (P.WaitingPassKeyInput held) (λ ok _. falls refl, λ _. falls refl, λ _. falls refl, typing held e, λ o _. falls refl),
   )
   phased (P.WaitingPassKeyEntryConfirm r) e =

@@ -1,5 +1,5 @@
 -- Passkey entry is exactly twenty rounds: the machine stands before the DHKey check just where its taken history is `Passed`. Assumes nothing.
-use Rattle.std.specs.Prelude.{None, Option}
+use Rattle.std.specs.Prelude.{Option, Some, None}
 use Rattle.std.proofs.lemmas.Bool.{cond-true}
 use Prim.Native.Nat.{ℕ, suc, ◌+◌, ◌-◌, ◌≤◌, ◌<◌}
 use mathlib.Core.Path.{◌≡◌, refl, sym, ap, subst, ◌∙◌}
@@ -48,12 +48,12 @@ Leads m P.WaitingPairingRequest h zs n = Passed m.setup h × (zs ≡ bits n 0)
 Leads m P.WaitingPublicKey h zs n = ((f : PairingFeatures) (q : Call) → Request m.setup f m.method q → Passed m.setup (q ∷ h)) × (zs ≡ bits n 0)
 Leads m P.WaitingNumericComparisonRandom h zs n = is_passkey m.method ≡ true
 Leads m (P.WaitingNumericComparisonResult held) h zs n = is_passkey m.method ≡ true
-Leads m (P.WaitingPassKeyInput false) h zs n =
+Leads m (P.WaitingPassKeyInput None) h zs n =
     ((f : PairingFeatures) (x : PassKeyEntryAction) (u : List ℕ) (q k : Call) → Request m.setup f (PassKeyEntry x W.Input) q → Key u k → Passed m.setup (q ∷ k ∷ h))
     × (zs ≡ bits n 0)
-Leads m (P.WaitingPassKeyInput true) h zs n =
+Leads m (P.WaitingPassKeyInput (Some held)) h zs n =
     ((f : PairingFeatures) (x : PassKeyEntryAction) (u v : List ℕ) (q k c : Call) → Request m.setup f (PassKeyEntry x W.Input) q → Key u k
-    → Value confirm_code v c → flip v ≡ m.secrets.held → Passed m.setup (q ∷ k ∷ c ∷ h)) × (zs ≡ bits n 0)
+    → Value confirm_code v c → flip v ≡ held → Passed m.setup (q ∷ k ∷ c ∷ h)) × (zs ≡ bits n 0)
 Leads m (P.WaitingPassKeyEntryConfirm r) h zs n = Rounds (suc (19 - r)) h × (zs ≡ bits m.secrets.passkey r) × (n ≡ m.secrets.passkey)
 Leads m (P.WaitingPassKeyEntryRandom r) h zs n =
     ((v : List ℕ) (c : Call) → Value confirm_code v c → flip v ≡ m.secrets.confirm → Rounds (suc (19 - r)) (c ∷ h))
@@ -170,12 +170,12 @@ shown_took (configured p d) a e f = refl
 shown_took (drawn p r) a e f = cond-true _ _ _ (ap in_range e ∙ r) ∙ ap (λ (d : ℕ). runs a (f d)) e
 
 -- the passkey, typed before round 0's confirm or after it
-back_typed : {p : ℕ} {t : Call} {h : List Call} (m : State) → m.phase ≡ P.WaitingPassKeyInput false → is_passkey m.method ≡ true → Typed p t → Rounds 20 h → Roomy (t ∷ h)
+back_typed : {p : ℕ} {t : Call} {h : List Call} (m : State) → m.phase ≡ P.WaitingPassKeyInput None → is_passkey m.method ≡ true → Typed p t → Rounds 20 h → Roomy (t ∷ h)
     → Ended p (run responder m (t ∷ h))
 unfolding Roomy runs
 back_typed m e i t ρ o = on e (passkey t) o.0 (Ended _) _ (back_rounds ρ 0 _ refl refl i o.1)
 
-back_late : {p : ℕ} {v w : List ℕ} {c t d : Call} {h : List Call} (m : State) → m.phase ≡ P.WaitingPassKeyInput false → is_passkey m.method ≡ true → Value confirm_code v c → Typed p t
+back_late : {p : ℕ} {v w : List ℕ} {c t d : Call} {h : List Call} (m : State) → m.phase ≡ P.WaitingPassKeyInput None → is_passkey m.method ≡ true → Value confirm_code v c → Typed p t
     → Matching (flip v) w d → Rounds 19 h → Roomy (c ∷ t ∷ d ∷ h) → Ended p (run responder m (c ∷ t ∷ d ∷ h))
 unfolding Roomy runs
 back_late m e i k t g ρ o =

@@ -152,8 +152,8 @@ abbrev Toward : State → Phase → List Call → Type 0
 Toward m P.WaitingPairingRequest h = identity_bit m.features.initiator ≡ false → Completed m.setup h
 Toward m P.WaitingPublicKey h = Ends m.features h
 Toward m P.WaitingNumericComparisonRandom h = Ends m.features h
-Toward m (P.WaitingNumericComparisonResult false) h = Ends m.features h
-Toward m (P.WaitingNumericComparisonResult true) h = (w : List ℕ) (c : Call) → Value check_code w c → flip w ≡ m.secrets.held → Ends m.features (c ∷ h)
+Toward m (P.WaitingNumericComparisonResult None) h = Ends m.features h
+Toward m (P.WaitingNumericComparisonResult (Some v)) h = (w : List ℕ) (c : Call) → Value check_code w c → flip w ≡ v → Ends m.features (c ∷ h)
 Toward m (P.WaitingPassKeyInput held) h = Ends m.features h
 Toward m (P.WaitingPassKeyEntryConfirm r) h = Ends m.features h
 Toward m (P.WaitingPassKeyEntryRandom r) h = Ends m.features h

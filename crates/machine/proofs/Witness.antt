@@ -1,7 +1,7 @@
 -- The premises of the theorems on runs are met: runs that take 47 calls and no fewer, and one for each way of pairing. Assumes nothing.
+use Rattle.std.specs.Prelude.{Some, None}
 use mathlib.Core.Path.{◌≡◌, refl}
 use mathlib.Core.List.{[], ◌∷◌, map}
-use mathlib.Core.Bool.{true, false}
 use lib.ListN.{take}
 use Rattle.octets.specs.Octets.{flip, zeros, same, all_zero}
 use Rattle.address.specs.Identity.{decode_of as address_of}
@@ -52,7 +52,7 @@ pub record Premises : Type 0 where
   pub hides : sent_in 0 (fresh_state shows) wrong_run ≡ []
   -- each phase from the check to Success is entered: after a held check with the peer's identity, and after an arriving one without
   pub held : trace (fresh_state (box DisplayYesNo NotPresent)) held_run
-      ≡ P.WaitingPublicKey ∷ P.WaitingNumericComparisonRandom ∷ P.WaitingNumericComparisonResult false ∷ P.WaitingNumericComparisonResult true
+      ≡ P.WaitingPublicKey ∷ P.WaitingNumericComparisonRandom ∷ P.WaitingNumericComparisonResult None ∷ P.WaitingNumericComparisonResult (Some turned)
       ∷ P.WaitingLinkEncrypted ∷ P.WaitingIdentitityInformation ∷ P.WaitingIdentitityAddressInformation ∷ P.Success ∷ []
   pub arrived : trace (fresh_state (box NoInputNoOutput NotPresent)) bare_run
       ≡ P.WaitingPublicKey ∷ P.WaitingNumericComparisonRandom ∷ P.WaitingDHKeyEa ∷ P.WaitingLinkEncrypted ∷ P.Success ∷ []

@@ -47,7 +47,7 @@ Encrypted m c = Links m c × (identity_bit m.features.initiator ≡ true)
 -- a DHKey check, arriving or held, that equals the f6 supplied with the call
 pub data Checks (m : State) (c : Call) : Type 0 where
   arrived : {w : List ℕ} → m.phase ≡ P.WaitingDHKeyEa → Value check_code w c → flip w ≡ c.supplied.peercheck → Checks m c
-  held : m.phase ≡ P.WaitingNumericComparisonResult true → Raises I.PassKeyConfirm c → m.secrets.held ≡ c.supplied.peercheck → Checks m c
+  held : {v : List ℕ} → m.phase ≡ P.WaitingNumericComparisonResult (Some v) → Raises I.PassKeyConfirm c → v ≡ c.supplied.peercheck → Checks m c
 
 -- what reaches WaitingLinkEncrypted: such a check; the outcome enables encryption with a bond that is kept, and its key is the link key of f5 that is
 -- supplied with the same call

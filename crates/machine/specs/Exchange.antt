@@ -1,5 +1,5 @@
 -- WaitingPublicKey: the two public keys, and the first move of each method. Part H 2.3.5.6.1, 2.3.5.6.2.
-use Rattle.std.specs.Prelude.{ℕ, List, [], ◌∷◌, false, Some, None}
+use Rattle.std.specs.Prelude.{ℕ, List, [], ◌∷◌, Some, None}
 use Rattle.method.specs.declared.PairingMethod.{PairingMethod}
 use Rattle.method.specs.declared.PairingMethod.TheVariants.{JustWorks, NumericComparison, PassKeyEntry, OutOfBand}
 use Rattle.method.specs.declared.PassKeyEntryAction.TheVariants as W
@@ -31,7 +31,7 @@ showing m s p = goes (to m (P.WaitingPassKeyEntryConfirm 0) (set_passkey s p)) (
 abbrev pub begins : PairingMethod → State → Secrets → Plan State
 begins OutOfBand m s = ends (goes (to m P.WaitingOobData s) (own_key m ∷ []) (Some E.OobRequest))
 begins (PassKeyEntry central W.Display) m s = shown m.setup.passkey λ p. ends (showing m s p)
-begins (PassKeyEntry central W.Input) m s = ends (goes (to m (P.WaitingPassKeyInput false) s) (own_key m ∷ []) (Some E.PassKeyInput))
+begins (PassKeyEntry central W.Input) m s = ends (goes (to m (P.WaitingPassKeyInput None) s) (own_key m ∷ []) (Some E.PassKeyInput))
 begins JustWorks m s = comparing m s
 begins NumericComparison m s = comparing m s
 

@@ -1,5 +1,5 @@
 -- WaitingNumericComparisonRandom and WaitingNumericComparisonResult. Part H 2.3.5.6.2.
-use Rattle.std.specs.Prelude.{ℕ, ◌%◌, List, [], ◌∷◌, Bool, true, false, Option, Some, None}
+use Rattle.std.specs.Prelude.{ℕ, ◌%◌, List, [], ◌∷◌, true, Option, Some, None}
 use Rattle.method.specs.declared.PairingMethod.{PairingMethod}
 use Rattle.method.specs.declared.PairingMethod.TheVariants.{JustWorks, NumericComparison, PassKeyEntry, OutOfBand}
 use Rattle.frames.specs.Packets.{random_code, check_code, pairing_random}
@@ -26,7 +26,7 @@ disclosing m n p e = goes (to m p (set_peer_nonce m.secrets n)) (pairing_random 
 abbrev pub numbering : State → List ℕ → Plan State
 numbering m n =
     asks (ask_g2 m.secrets.peerx m.setup.keyx n m.secrets.ownnonce) λ g.
-    ends (disclosing m n (P.WaitingNumericComparisonResult false) (Some (E.PassKeyConfirm (g % 1000000))))
+    ends (disclosing m n (P.WaitingNumericComparisonResult None) (Some (E.PassKeyConfirm (g % 1000000))))
 
 -- Just Works compares nothing
 abbrev pub compares : PairingMethod → State → List ℕ → Plan State
@@ -40,16 +40,16 @@ abbrev pub on_comparison_random : State → ℕ → List ℕ → Plan State
 on_comparison_random m code body = value random_code F.InvalidParameters code body λ n. compares m.method m n
 
 -- a command in WaitingNumericComparisonResult: an early DHKey check is held
-abbrev pub on_early_check : State → Bool → ℕ → List ℕ → Plan State
-on_early_check m held code body = holds m held check_code code body (P.WaitingNumericComparisonResult true)
+abbrev pub on_early_check : State → Option (List ℕ) → ℕ → List ℕ → Plan State
+on_early_check m held code body = holds m held check_code code body P.WaitingNumericComparisonResult
 
 -- the user's yes: a held check is handled
-abbrev pub confirmed : State → Bool → Plan State
-confirmed m true = checking m true m.secrets.held
-confirmed m false = ends (goes (at m P.WaitingDHKeyEa) [] None)
+abbrev pub confirmed : State → Option (List ℕ) → Plan State
+confirmed m (Some v) = checking m true v
+confirmed m None = ends (goes (at m P.WaitingDHKeyEa) [] None)
 
 -- an event in WaitingNumericComparisonResult
-abbrev pub on_comparison : State → Bool → Event → Plan State
+abbrev pub on_comparison : State → Option (List ℕ) → Event → Plan State
 on_comparison m held (I.LinkEncryptedResult ok) = unlisted
 on_comparison m held I.PassKeyConfirm = confirmed m held
 on_comparison m held I.PassKeyCancel = ends (fails None F.NumericComparisonFailed)

@@ -1,5 +1,5 @@
 -- WaitingPassKeyInput, WaitingPassKeyEntryConfirm and WaitingPassKeyEntryRandom. Part H 2.3.5.6.3.
-use Rattle.std.specs.Prelude.{ℕ, List, [], ◌∷◌, Bool, true, false, Option, Some, None}
+use Rattle.std.specs.Prelude.{ℕ, List, [], ◌∷◌, Option, Some, None}
 use Rattle.octets.specs.Octets.{same}
 use Rattle.rounds.specs.Rounds.{after_of, z_of}
 use Rattle.frames.specs.Packets.{confirm_code, random_code, pairing_confirm, pairing_random}
@@ -23,16 +23,16 @@ confirming m s r v =
     ends (goes (to m (P.WaitingPassKeyEntryRandom r) (set_confirm s v n)) (pairing_confirm confirm ∷ []) None)
 
 -- a command in WaitingPassKeyInput: an early confirm is held
-abbrev pub on_early_confirm : State → Bool → ℕ → List ℕ → Plan State
-on_early_confirm m held code body = holds m held confirm_code code body (P.WaitingPassKeyInput true)
+abbrev pub on_early_confirm : State → Option (List ℕ) → ℕ → List ℕ → Plan State
+on_early_confirm m held code body = holds m held confirm_code code body P.WaitingPassKeyInput
 
 -- the passkey is typed: a held confirm is round 0's
-abbrev pub typed : State → Bool → ℕ → Plan State
-typed m true p = confirming m (set_passkey m.secrets p) 0 m.secrets.held
-typed m false p = ends (goes (to m (P.WaitingPassKeyEntryConfirm 0) (set_passkey m.secrets p)) [] None)
+abbrev pub typed : State → Option (List ℕ) → ℕ → Plan State
+typed m (Some v) p = confirming m (set_passkey m.secrets p) 0 v
+typed m None p = ends (goes (to m (P.WaitingPassKeyEntryConfirm 0) (set_passkey m.secrets p)) [] None)
 
 -- an event in WaitingPassKeyInput
-abbrev pub on_typing : State → Bool → Event → Plan State
+abbrev pub on_typing : State → Option (List ℕ) → Event → Plan State
 on_typing m held (I.LinkEncryptedResult ok) = unlisted
 on_typing m held I.PassKeyConfirm = unlisted
 on_typing m held I.PassKeyCancel = ends (fails None F.PasskeyEntryFailed)

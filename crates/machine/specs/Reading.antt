@@ -1,5 +1,5 @@
 -- Which calls read the drawn nonce, and which the drawn passkey.
-use Rattle.std.specs.Prelude.{ℕ, ◌≡◌, ◌⊎◌, List, ◌∷◌, true}
+use Rattle.std.specs.Prelude.{ℕ, ◌≡◌, ◌⊎◌, List, ◌∷◌, Some, true}
 use Rattle.method.specs.declared.PairingMethod.TheVariants.{JustWorks, NumericComparison}
 use Rattle.rounds.specs.Rounds.{in_range}
 use Rattle.frames.specs.Packets.{public_key_code, confirm_code, random_code}
@@ -20,7 +20,7 @@ pub data ReadsNonce (m : State) (a : Supplied) : Input → Type 0 where
   key : {code : ℕ} {body : List ℕ} → m.phase ≡ P.WaitingPublicKey → code ≡ public_key_code → is_key body ≡ true → a.dhvalid ≡ true
       → (m.method ≡ JustWorks) ⊎ (m.method ≡ NumericComparison) → ReadsNonce m a (command (code ∷ body))
   confirm : {code : ℕ} {body : List ℕ} (round : ℕ) → m.phase ≡ P.WaitingPassKeyEntryConfirm round → code ≡ confirm_code → is_value body ≡ true → ReadsNonce m a (command (code ∷ body))
-  typed : {p : ℕ} → m.phase ≡ P.WaitingPassKeyInput true → in_range p ≡ true → ReadsNonce m a (event (I.PassKeyInput p))
+  typed : {p : ℕ} {v : List ℕ} → m.phase ≡ P.WaitingPassKeyInput (Some v) → in_range p ≡ true → ReadsNonce m a (event (I.PassKeyInput p))
   oob : {code : ℕ} {body : List ℕ} → m.phase ≡ P.WaitingOobRandom → code ≡ random_code → is_value body ≡ true → ReadsNonce m a (command (code ∷ body))
 
 -- which calls read a drawn value

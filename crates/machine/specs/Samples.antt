@@ -118,7 +118,7 @@ confirm = 0x11 ∷ 0x00 ∷ 0x06 ∷ 0x00 ∷ 0x03 ∷ replicate 16 0
 
 -- a passkey typed at the box
 abbrev entered : ℕ → Sample
-entered p = call (standing (P.WaitingPassKeyInput false) typed) (event (I.PassKeyInput p)) 0 90
+entered p = call (standing (P.WaitingPassKeyInput None) typed) (event (I.PassKeyInput p)) 0 90
 
 -- features of which the choice reads IO, OOB and MITM
 abbrev features : IoCapabilities → UseOutOfBand → Bool → PairingFeatures
@@ -152,7 +152,7 @@ rows =
     ∷ row (keyed NumericComparison 0 89) (came P.WaitingPublicKey [] NumericComparison (refusal 2))
     ∷ row (keyed NumericComparison 0 90) (came P.WaitingNumericComparisonRandom (key ++ confirm) NumericComparison taken)
     -- P10: passkey 1,000,000 and 999,999, typed and drawn
-    ∷ row (entered 1000000) (came (P.WaitingPassKeyInput false) [] typed (refusal 3))
+    ∷ row (entered 1000000) (came (P.WaitingPassKeyInput None) [] typed (refusal 3))
     ∷ row (entered 999999) (came (P.WaitingPassKeyEntryConfirm 0) [] typed taken)
     ∷ row (keyed shown 1000000 90) (came P.WaitingPublicKey [] shown (refusal 3))
     ∷ row (keyed shown 999999 90) (came (P.WaitingPassKeyEntryConfirm 0) key shown taken)

@@ -7,14 +7,14 @@ use features::PairingFeatures;
 use method::PairingMethod;
 use protocol::{Action, Answer, Bond, ConnectionEvent, Failure, Secrets, Setup};
 
-// What the machine waits for. The flag of a phase that can hold an early payload says whether it does; the number is the round.
+// What the machine waits for. A phase in which a payload can come early has it; the number is the round.
 #[derive(Clone, Copy)]
 pub enum Phase {
     WaitingPairingRequest,
     WaitingPublicKey,
     WaitingNumericComparisonRandom,
-    WaitingNumericComparisonResult(bool),
-    WaitingPassKeyInput(bool),
+    WaitingNumericComparisonResult(Option<[u8; 16]>),
+    WaitingPassKeyInput(Option<[u8; 16]>),
     WaitingPassKeyEntryConfirm(u8),
     WaitingPassKeyEntryRandom(u8),
     WaitingOobData,

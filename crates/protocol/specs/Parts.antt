@@ -68,10 +68,10 @@ module _ {S : Type 0} where
   abbrev pub value : ℕ → Failure → ℕ → List ℕ → (List ℕ → Plan S) → Plan S
   value k f code body p = needs (eqb code k) F.InvalidState (needs (is_value body) f (p (flip body)))
 
-  -- one value by the code k that comes early: a second one fails before its length is looked at
-  abbrev pub early : Bool → ℕ → ℕ → List ℕ → (List ℕ → Plan S) → Plan S
+  -- one value by the code k that comes early, with what is held already: a second one fails before its length is looked at
+  abbrev pub early : Option (List ℕ) → ℕ → ℕ → List ℕ → (List ℕ → Plan S) → Plan S
   early held k code body p =
-      needs (eqb code k) F.InvalidState (needs (not held) F.InvalidState (needs (is_value body) F.InvalidValue (p (flip body))))
+      needs (eqb code k) F.InvalidState (needs (not (is_some held)) F.InvalidState (needs (is_value body) F.InvalidValue (p (flip body))))
 
   -- a DHKey check: whether it has the right length is tested with its value
   abbrev pub check : ℕ → List ℕ → (Bool → List ℕ → Plan S) → Plan S

@@ -29,7 +29,7 @@ use Rattle.protocol.specs.Plan.{Plan, Ending, ends, refuses, fails, moves, goes,
 use Rattle.protocol.specs.Parts as Parts
 use Rattle.protocol.specs.Parts.{verdict_of, ask_dh, ask_f4, ask_f5, ask_f6, ask_g2}
 use Rattle.protocol.specs.Role.{Role, Input, command, event, Outcome, said as said_of, plan}
-use Rattle.protocol.specs.Exchanged.{fresh, set_confirm, set_nonces, set_peer_nonce, set_own_nonce, set_secrets, set_passkey, set_held, own_confirm, peer_confirm}
+use Rattle.protocol.specs.Exchanged.{fresh, set_confirm, set_nonces, set_peer_nonce, set_own_nonce, set_secrets, set_passkey, own_confirm, peer_confirm}
 use Rattle.protocol.specs.Values.{from, none, public, random, nobody, our_x, our_irk, peer_x, dh_key, confirm, peer_nonce, our_nonce, peer_secret, our_secret, check, new_key, our_confirm, mac_key, link_key, our_check, new_x, new_y, value, dh, f4, f5, f6, g2, secrets, secret, bond, setup, handing, had}
 
 -- What is shown: a question, what is kept, octets or numbers, a number of the scope, a verdict, an end, an outcome
@@ -81,10 +81,10 @@ abbrev one : ℕ → List ℕ → Shown
 one code body = reads given (Parts.value 0x03 F.ConfirmValueFailed code body got)
 
 abbrev early : ℕ → List ℕ → Shown
-early code body = reads given (Parts.early false 0x03 code body got)
+early code body = reads given (Parts.early None 0x03 code body got)
 
 abbrev second : ℕ → List ℕ → Shown
-second code body = reads given (Parts.early true 0x03 code body got)
+second code body = reads given (Parts.early (Some check) 0x03 code body got)
 
 abbrev checked : ℕ → List ℕ → Shown
 checked code body = reads given (Parts.check code body λ whole v. got (cond whole v []))
@@ -146,15 +146,14 @@ rows =
     ∷ row (answers false false false false false true false) (list (0 ∷ 0 ∷ 0 ∷ 0 ∷ 0 ∷ 1 ∷ 0 ∷ []))
     ∷ row (answers false false false false false false true) (list (0 ∷ 0 ∷ 0 ∷ 0 ∷ 0 ∷ 0 ∷ 1 ∷ []))
     -- What is kept: secrets not set are zero; of what is set anew, the rest stays
-    ∷ row (kept (fresh new_x new_key)) (kept (secrets new_x new_key none none none none none 0 none))
-    ∷ row (kept (set_confirm had value mac_key)) (kept (secrets peer_x dh_key value peer_nonce mac_key peer_secret our_secret 345678 check))
-    ∷ row (kept (set_nonces had value mac_key)) (kept (secrets peer_x dh_key confirm value mac_key peer_secret our_secret 345678 check))
-    ∷ row (kept (set_peer_nonce had value)) (kept (secrets peer_x dh_key confirm value our_nonce peer_secret our_secret 345678 check))
-    ∷ row (kept (set_own_nonce had value)) (kept (secrets peer_x dh_key confirm peer_nonce value peer_secret our_secret 345678 check))
-    ∷ row (kept (set_secrets had value mac_key)) (kept (secrets peer_x dh_key confirm peer_nonce our_nonce value mac_key 345678 check))
-    ∷ row (kept (set_held had value)) (kept (secrets peer_x dh_key confirm peer_nonce our_nonce peer_secret our_secret 345678 value))
+    ∷ row (kept (fresh new_x new_key)) (kept (secrets new_x new_key none none none none none 0))
+    ∷ row (kept (set_confirm had value mac_key)) (kept (secrets peer_x dh_key value peer_nonce mac_key peer_secret our_secret 345678))
+    ∷ row (kept (set_nonces had value mac_key)) (kept (secrets peer_x dh_key confirm value mac_key peer_secret our_secret 345678))
+    ∷ row (kept (set_peer_nonce had value)) (kept (secrets peer_x dh_key confirm value our_nonce peer_secret our_secret 345678))
+    ∷ row (kept (set_own_nonce had value)) (kept (secrets peer_x dh_key confirm peer_nonce value peer_secret our_secret 345678))
+    ∷ row (kept (set_secrets had value mac_key)) (kept (secrets peer_x dh_key confirm peer_nonce our_nonce value mac_key 345678))
     -- the passkey becomes both secrets: 123,456 is hex 1E240
-    ∷ row (kept (set_passkey had 123456)) (kept (secrets peer_x dh_key confirm peer_nonce our_nonce (secret 0x01 0xE2 0x40) (secret 0x01 0xE2 0x40) 123456 check))
+    ∷ row (kept (set_passkey had 123456)) (kept (secrets peer_x dh_key confirm peer_nonce our_nonce (secret 0x01 0xE2 0x40) (secret 0x01 0xE2 0x40) 123456))
     -- What comes: turned round; 16 for another code; 42, 17 or as the caller says for another length
     ∷ row (key 0x0C (reverse new_x ++ reverse new_y)) (list (new_x ++ new_y))
     ∷ row (key 0x0D (from 0 64)) (number 16)

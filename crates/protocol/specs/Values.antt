@@ -136,10 +136,10 @@ f6 whose w n1 n2 r iocap a1 a2 = whose (record { w = w; n1 = n1; n2 = n2; r = r;
 abbrev pub g2 : List ℕ → List ℕ → List ℕ → List ℕ → Question
 g2 u v x y = Q.G2 u v x y
 
--- what was exchanged: the peer's x, the DHKey, the peer's confirm, the nonces (the peer's, ours), the secrets (the peer's, ours), the passkey, what is held
-abbrev pub secrets : List ℕ → List ℕ → List ℕ → List ℕ → List ℕ → List ℕ → List ℕ → ℕ → List ℕ → Secrets
-secrets x w c n1 n2 s1 s2 p h =
-    record { peerx = x; dhkey = w; confirm = c; peernonce = n1; ownnonce = n2; peersecret = s1; ownsecret = s2; passkey = p; held = h }
+-- what was exchanged: the peer's x, the DHKey, the peer's confirm, the nonces (the peer's, ours), the secrets (the peer's, ours), the passkey
+abbrev pub secrets : List ℕ → List ℕ → List ℕ → List ℕ → List ℕ → List ℕ → List ℕ → ℕ → Secrets
+secrets x w c n1 n2 s1 s2 p =
+    record { peerx = x; dhkey = w; confirm = c; peernonce = n1; ownnonce = n2; peersecret = s1; ownsecret = s2; passkey = p }
 
 -- a passkey's sixteen octets, by its last three
 abbrev pub secret : ℕ → ℕ → ℕ → List ℕ
@@ -161,4 +161,4 @@ handing valid drawn =
 
 -- what was exchanged before the sample, with the passkey 345,678
 abbrev pub had : Secrets
-had = secrets peer_x dh_key confirm peer_nonce our_nonce peer_secret our_secret 345678 check
+had = secrets peer_x dh_key confirm peer_nonce our_nonce peer_secret our_secret 345678

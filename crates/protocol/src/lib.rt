@@ -111,7 +111,7 @@ pub struct Setup {
     pub known: Option<Bond>,
 }
 
-// What the two sides have exchanged. `confirm` is the peer's; `held` is an early confirm or DHKey check.
+// What the two sides have exchanged. `confirm` is the peer's.
 #[derive(Clone, Copy)]
 pub struct Secrets {
     pub peerx: [u8; 32],
@@ -122,7 +122,6 @@ pub struct Secrets {
     pub peersecret: [u8; 16],
     pub ownsecret: [u8; 16],
     pub passkey: u32,
-    pub held: [u8; 16],
 }
 
 // What a call is handed from outside: drawn values, and the answers to the questions that the step announces. `dhkey` stands beside `dhvalid`

@@ -64,7 +64,6 @@ pub fn fresh_secrets(peerx: [u8; 32], dhkey: [u8; 32]) -> Secrets
         peersecret: [0; 16],
         ownsecret: [0; 16],
         passkey: 0,
-        held: [0; 16],
     }
 }
 
