@@ -68,7 +68,7 @@ module _ (g : Given) (a : Supplied) (r : Option Question) (none : r ≡ None) wh
   command_other P.Success m code body n1 n2 n3 n4 n5 = asks_nothing none
   command_other (P.Error f) m code body n1 n2 n3 n4 n5 = asks_nothing none
 
-  pub event_other : (x : Phase) (m : State) (e : Event) → ((held : Bool) → x ≡ P.WaitingNumericComparisonResult held → ⊥) → ((held : Bool) → x ≡ P.WaitingPassKeyInput held → ⊥) → (x ≡ P.WaitingOobData → ⊥) → Queried g a (on_event x m e) r
+  pub event_other : (x : Phase) (m : State) (e : Event) → ((held : Option (List ℕ)) → x ≡ P.WaitingNumericComparisonResult held → ⊥) → ((held : Option (List ℕ)) → x ≡ P.WaitingPassKeyInput held → ⊥) → (x ≡ P.WaitingOobData → ⊥) → Queried g a (on_event x m e) r
   event_other P.WaitingPairingRequest m e n1 n2 n3 = bonded m e
   event_other P.WaitingPublicKey m e n1 n2 n3 = asks_nothing none
   event_other P.WaitingNumericComparisonRandom m e n1 n2 n3 = asks_nothing none
@@ -85,14 +85,14 @@ module _ (g : Given) (a : Supplied) (r : Option Question) (none : r ≡ None) wh
   event_other P.Success m e n1 n2 n3 = asks_nothing none
   event_other (P.Error f) m e n1 n2 n3 = asks_nothing none
 
-  pub comparison_other : (m : State) (held : Bool) (x : Event) → (x ≡ I.PassKeyConfirm → ⊥) → Queried g a (on_comparison m held x) r
+  pub comparison_other : (m : State) (held : Option (List ℕ)) (x : Event) → (x ≡ I.PassKeyConfirm → ⊥) → Queried g a (on_comparison m held x) r
   comparison_other m held (I.LinkEncryptedResult ok) n = asks_nothing none
   comparison_other m held I.PassKeyConfirm n = absurd (n refl)
   comparison_other m held I.PassKeyCancel n = asks_nothing none
   comparison_other m held (I.PassKeyInput p) n = asks_nothing none
   comparison_other m held (I.OobDataReceived o) n = asks_nothing none
 
-  pub typing_other : (m : State) (held : Bool) (x : Event) → ((p : ℕ) → x ≡ I.PassKeyInput p → ⊥) → Queried g a (on_typing m held x) r
+  pub typing_other : (m : State) (held : Option (List ℕ)) (x : Event) → ((p : ℕ) → x ≡ I.PassKeyInput p → ⊥) → Queried g a (on_typing m held x) r
   typing_other m held (I.LinkEncryptedResult ok) n = asks_nothing none
   typing_other m held I.PassKeyConfirm n = asks_nothing none
   typing_other m held I.PassKeyCancel n = asks_nothing none

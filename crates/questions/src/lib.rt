@@ -231,31 +231,24 @@ impl Query {
     }
 
     // WaitingNumericComparisonResult: a held check is handled on the user's yes.
-    fn compared(self, held: bool, came: Event) -> Option<Question>
+    fn compared(self, held: Option<[u8; 16]>, came: Event) -> Option<Question>
         ensures { Queried self.given self.supplied (on_comparison self.state held came) result }
     {
         match came {
-            Event::PassKeyConfirm => {
-                if held {
-                    return self.check_value(self.state.secrets.held);
-                }
-                None
-            }
+            Event::PassKeyConfirm => self.check_value(held?),
             _ => None,
         }
     }
 
     // WaitingPassKeyInput: a held confirm is handled as round 0's.
-    fn typed(self, held: bool, came: Event) -> Option<Question>
+    fn typed(self, held: Option<[u8; 16]>, came: Event) -> Option<Question>
         ensures { Queried self.given self.supplied (on_typing self.state held came) result }
     {
         match came {
             Event::PassKeyInput(passkey) => {
-                if held {
-                    let keyed = states::with_passkey(self.state.secrets, passkey);
-                    return self.round_confirm(keyed, 0);
-                }
-                None
+                held?;
+                let keyed = states::with_passkey(self.state.secrets, passkey);
+                self.round_confirm(keyed, 0)
             }
             _ => None,
         }
