@@ -56,7 +56,7 @@ fn begin(state: State, secrets: Secrets, supplied: Supplied, out: &mut [u8]) -> 
             ..
         } => send_key(
             state,
-            Phase::WaitingPassKeyInput(false),
+            Phase::WaitingPassKeyInput(None),
             secrets,
             Some(ConnectionEvent::PassKeyInput),
             out,

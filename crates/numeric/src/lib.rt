@@ -27,7 +27,7 @@ pub fn comparison_random(
 // An event in WaitingNumericComparisonResult: the user's yes or no.
 pub fn comparison_event(
     state: State,
-    held: bool,
+    held: Option<[u8; 16]>,
     event: Event,
     supplied: Supplied,
     out: &mut [u8],
@@ -54,7 +54,7 @@ fn compare(state: State, nonce: [u8; 16], supplied: Supplied, out: &mut [u8]) ->
         PairingMethod::JustWorks => states::goes(state, Phase::WaitingDHKeyEa, secrets, sent, None),
         _ => states::goes(
             state,
-            Phase::WaitingNumericComparisonResult(false),
+            Phase::WaitingNumericComparisonResult(None),
             secrets,
             sent,
             Some(ConnectionEvent::PassKeyConfirm(supplied.g2 % 1_000_000)),
@@ -63,11 +63,11 @@ fn compare(state: State, nonce: [u8; 16], supplied: Supplied, out: &mut [u8]) ->
 }
 
 // The user's yes: a held check is handled, or the check is waited for.
-fn confirmed(state: State, held: bool, supplied: Supplied, out: &mut [u8]) -> Step
+fn confirmed(state: State, held: Option<[u8; 16]>, supplied: Supplied, out: &mut [u8]) -> Step
     ensures { Follows state supplied (confirmed state held) result out.old out.new }
 {
-    if held {
-        return dhkey::check_value(state, state.secrets.held, supplied, out);
+    match held {
+        Some(early) => dhkey::check_value(state, early, supplied, out),
+        None => states::goes(state, Phase::WaitingDHKeyEa, state.secrets, 0, None),
     }
-    states::goes(state, Phase::WaitingDHKeyEa, state.secrets, 0, None)
 }

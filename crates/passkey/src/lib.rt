@@ -13,7 +13,7 @@ use protocol::{Event, Failure, Secrets, Supplied};
 // An event in WaitingPassKeyInput: the passkey, or the user's no.
 pub fn typing_event(
     state: State,
-    held: bool,
+    held: Option<[u8; 16]>,
     event: Event,
     supplied: Supplied,
     out: &mut [u8],
@@ -84,14 +84,20 @@ fn confirmed(state: State, supplied: Supplied) -> bool
 }
 
 // The passkey was typed: it becomes both secrets, and a held confirm is round 0's.
-fn typed(state: State, held: bool, passkey: u32, supplied: Supplied, out: &mut [u8]) -> Step
+fn typed(
+    state: State,
+    held: Option<[u8; 16]>,
+    passkey: u32,
+    supplied: Supplied,
+    out: &mut [u8],
+) -> Step
     ensures { Follows state supplied (typed state held passkey) result out.old out.new }
 {
     let keyed = states::with_passkey(state.secrets, passkey);
-    if held {
-        return confirm_round(state, keyed, 0, state.secrets.held, supplied, out);
+    match held {
+        Some(early) => confirm_round(state, keyed, 0, early, supplied, out),
+        None => states::goes(state, Phase::WaitingPassKeyEntryConfirm(0), keyed, 0, None),
     }
-    states::goes(state, Phase::WaitingPassKeyEntryConfirm(0), keyed, 0, None)
 }
 
 // A round's confirm is kept, our nonce is drawn for it, and our confirm goes out.

@@ -48,8 +48,8 @@ impl View {
     // Whether a payload is held, as 0 or 1.
     fn held(self) -> Option<u8> {
         match self.phase {
-            Phase::WaitingNumericComparisonResult(held) => Some(u8::from(held)),
-            Phase::WaitingPassKeyInput(held) => Some(u8::from(held)),
+            Phase::WaitingNumericComparisonResult(held) => Some(u8::from(held.is_some())),
+            Phase::WaitingPassKeyInput(held) => Some(u8::from(held.is_some())),
             _ => None,
         }
     }

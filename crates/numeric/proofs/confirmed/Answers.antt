@@ -2,5 +2,5 @@
 use Rattle.protocol.proofs.Follows.{moving_silent}
 use Rattle.numeric.proofs.confirmed.Goals as goal
 
-pub returns : goal.returns
-returns c = rw c.if-held.false (moving_silent c.goes.ensures)
+pub returns-in-None : goal.returns-in-None
+returns-in-None c = rw c.in-None.is (moving_silent c.goes.ensures)
