@@ -4,7 +4,7 @@
 ghost use Rattle.std.specs.Prelude.{◌≡◌, length, ltb};
 ghost use Rattle.protocol.specs.Role.{command, event, enough, gate_of, taking, plan};
 ghost use Rattle.machine.specs.State.{finished_phase};
-ghost use Rattle.machine.specs.Responder.{on_command, responder, Follows};
+ghost use Rattle.machine.specs.Responder.{on_command, on_event, responder, Follows};
 
 use machine::{Phase, State, Step};
 use protocol::{Event, Failure, Refusal, Supplied};
@@ -24,7 +24,7 @@ pub fn on_event(state: State, came: Event, supplied: Supplied, out: &mut [u8]) -
     ensures { Follows state supplied (plan responder state (event came) (length out.old)) result out.old out.new }
 {
     match admit(state, out.len(), states::in_range(came)) {
-        Ok(()) => take_event(state, came, supplied, out),
+        Ok(()) => by_event(state, came, supplied, out),
         Err(refusal) => states::refused(state, refusal),
     }
 }
@@ -83,9 +83,8 @@ fn by_command(state: State, code: u8, payload: &[u8], supplied: Supplied, out: &
     }
 }
 
-// An event that is taken.
-fn take_event(state: State, came: Event, supplied: Supplied, out: &mut [u8]) -> Step
-    ensures { Follows state supplied (taking responder state (event came)) result out.old out.new }
+fn by_event(state: State, came: Event, supplied: Supplied, out: &mut [u8]) -> Step
+    ensures { Follows state supplied (on_event state.phase state came) result out.old out.new }
 {
     match state.phase {
         Phase::WaitingPairingRequest => keys::bonded_link_event(state, came, out),

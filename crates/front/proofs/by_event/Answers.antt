@@ -1,7 +1,7 @@
--- `front::take_event` meets its contract. Assumes nothing.
+-- `front::by_event` meets its contract. Assumes nothing.
 use Rattle.protocol.proofs.Follows.{refusing, failing}
 use Rattle.front.proofs.Other.{event_other, event_ended}
-use Rattle.front.proofs.take_event.Goals as goal
+use Rattle.front.proofs.by_event.Goals as goal
 
 pub returns-in-Success : goal.returns-in-Success
 returns-in-Success c = rw (event_ended _ _ _ c.in-Success.is) (refusing c.refused.ensures)
