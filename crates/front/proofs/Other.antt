@@ -1,7 +1,7 @@
 -- What the last arms of a match take: a phase in which no event is listed, and the two in which a machine is finished. Assumes nothing.
 use Rattle.protocol.specs.declared.Failure.{Failure}
 use Prim.Native.Nat.{ℕ}
-use mathlib.Core.Bool.{Bool}
+use Rattle.std.specs.Prelude.{Option}
 use mathlib.Core.List.{List}
 use mathlib.Core.Logic.{◌⊎◌, inl, inr}
 use mathlib.Core.Path.{◌≡◌, refl}
@@ -13,7 +13,7 @@ use Rattle.protocol.specs.declared.Refusal.TheVariants as R
 use Rattle.protocol.specs.Plan.{ends, refuses, unlisted}
 use Rattle.machine.specs.Responder.{on_command, on_event}
 
-pub event_other : (x : Phase) (m : State) (e : Event) → (x ≡ P.WaitingPairingRequest → ⊥) → ((held : Bool) → x ≡ P.WaitingNumericComparisonResult held → ⊥) → ((held : Bool) → x ≡ P.WaitingPassKeyInput held → ⊥) → (x ≡ P.WaitingOobData → ⊥) → (x ≡ P.WaitingLinkEncrypted → ⊥) → (x ≡ P.Success → ⊥) → ((f : Failure) → x ≡ P.Error f → ⊥) → on_event x m e ≡ unlisted
+pub event_other : (x : Phase) (m : State) (e : Event) → (x ≡ P.WaitingPairingRequest → ⊥) → ((held : Option (List ℕ)) → x ≡ P.WaitingNumericComparisonResult held → ⊥) → ((held : Option (List ℕ)) → x ≡ P.WaitingPassKeyInput held → ⊥) → (x ≡ P.WaitingOobData → ⊥) → (x ≡ P.WaitingLinkEncrypted → ⊥) → (x ≡ P.Success → ⊥) → ((f : Failure) → x ≡ P.Error f → ⊥) → on_event x m e ≡ unlisted
 event_other P.WaitingPairingRequest m e n1 n2 n3 n4 n5 n6 n7 = absurd (n1 refl)
 event_other P.WaitingPublicKey m e n1 n2 n3 n4 n5 n6 n7 = refl
 event_other P.WaitingNumericComparisonRandom m e n1 n2 n3 n4 n5 n6 n7 = refl

@@ -1,6 +1,4 @@
 // The walk through the input: one record, one call, one line.
-ghost use Rattle.std.specs.Prelude.{◌≤◌, length};
-
 use crate::lines::{Fault, Line};
 use crate::parts::Said;
 use calls::{Kind, SetupCall, StartKind};
@@ -99,41 +97,26 @@ impl Walk {
 }
 
 // One record: its header, and then its payload, as long as the header says. Nothing of it is tested before it is read whole. None where
-// the input ends before a header.
+// the input ends before a header; a read that fails ends it.
 fn record<'a>(
     input: &mut impl io::Read,
     payload: &'a mut [u8],
 ) -> Result<Option<(Kind, &'a [u8])>, Fault> {
     let mut header = [0u8; 4];
-    let got = read_full(input, &mut header);
-    if got == 0 {
+    if input.read(&mut header[..1]).unwrap_or(0) == 0 {
         return Ok(None);
     }
-    if got < 4 {
-        return Err(Fault::Incomplete);
-    }
+    whole(input, &mut header[1..])?;
     let head = calls::read_header(&header);
     let size = head.length.min(payload.len());
-    if read_full(input, &mut payload[..size]) < size {
-        return Err(Fault::Incomplete);
-    }
+    whole(input, &mut payload[..size])?;
     let kind = head.kind.ok_or(Fault::UnknownKind)?;
     Ok(Some((kind, &payload[..size])))
 }
 
-// Reads until the slice is full, the input ends or a read fails, and answers how many octets were read.
-fn read_full(input: &mut impl io::Read, octets: &mut [u8]) -> usize
-    ensures { result ≤ length octets.new }
-{
-    let mut done = 0;
-    while done < octets.len() {
-        let n = input.read(&mut octets[done..]).unwrap_or(0);
-        if n == 0 {
-            break;
-        }
-        done += n;
-    }
-    done
+// The rest of a record that has begun.
+fn whole(input: &mut impl io::Read, octets: &mut [u8]) -> Result<(), Fault> {
+    input.read_exact(octets).map_err(|_| Fault::Incomplete)
 }
 
 fn setup(payload: &[u8]) -> Result<(Latest, Line), Fault> {
