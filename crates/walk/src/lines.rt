@@ -31,7 +31,7 @@ impl fmt::Display for Fault {
 #[derive(Clone, Copy)]
 pub(crate) struct Line {
     kind: &'static str,
-    said: Said,
+    said: Option<Said>,
     outbox: [u8; 512],
     sent: usize,
     events: Events,
@@ -49,7 +49,7 @@ impl Line {
         Line {
             outbox,
             sent: begun.sent,
-            ..Line::quiet("setup", said, begun.responder)
+            ..Line::quiet("setup", Some(said), begun.responder)
         }
     }
 
@@ -66,12 +66,12 @@ impl Line {
             events: Events(stepped.first, stepped.second),
             action: stepped.action,
             asked,
-            ..Line::quiet(kind, Said::Answer(stepped.answer), stepped.responder)
+            ..Line::quiet(kind, Some(Said::Answer(stepped.answer)), stepped.responder)
         }
     }
 
     // A line where nothing is given back.
-    pub(crate) fn quiet(kind: &'static str, said: Said, responder: Responder) -> Line {
+    pub(crate) fn quiet(kind: &'static str, said: Option<Said>, responder: Responder) -> Line {
         Line {
             kind,
             said,
@@ -88,7 +88,8 @@ impl Line {
 impl fmt::Display for Line {
     fn fmt<W: fmt::Write>(&self, f: &mut fmt::Formatter<W>) -> fmt::Result {
         let sent = Frames(&self.outbox[..self.sent.min(512)]);
-        write!(f, "{} answer={} frames={sent}", self.kind, self.said)?;
+        let said = OrDash(self.said);
+        write!(f, "{} answer={said} frames={sent}", self.kind)?;
         write!(
             f,
             " events={} action={}",

@@ -11,7 +11,6 @@ use std::fmt;
 // What stands behind `answer=`.
 #[derive(Clone, Copy)]
 pub(crate) enum Said {
-    Nothing,
     Started,
     Answer(Answer),
     // an answer that was seen, and whether it is the one that was given
@@ -21,7 +20,6 @@ pub(crate) enum Said {
 impl fmt::Display for Said {
     fn fmt<W: fmt::Write>(&self, f: &mut fmt::Formatter<W>) -> fmt::Result {
         match self {
-            Said::Nothing => f.write_str("-"),
             Said::Started => f.write_str("started"),
             Said::Answer(Answer::Taken) => f.write_str("taken"),
             Said::Answer(Answer::Failed(failure)) => write!(

@@ -187,7 +187,7 @@ impl Latest {
             return Err(Fault::Misfit);
         }
         let responder = self.responder.mark_timeout();
-        let line = Line::quiet("timeout", Said::Nothing, responder);
+        let line = Line::quiet("timeout", None, responder);
         Ok((Latest { responder, ..self }, line))
     }
 
@@ -195,6 +195,6 @@ impl Latest {
     fn shown(self, payload: &[u8]) -> Result<(Latest, Line), Fault> {
         let shown = calls::read_answer(payload).ok_or(Fault::Misfit)?;
         let said = Said::Seen(shown == self.answer);
-        Ok((self, Line::quiet("answer", said, self.responder)))
+        Ok((self, Line::quiet("answer", Some(said), self.responder)))
     }
 }
