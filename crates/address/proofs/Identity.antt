@@ -16,7 +16,7 @@ use Rattle.address.specs.declared.Address.{Address}
 use Rattle.address.specs.declared.AddressKind.{AddressKind}
 use Rattle.address.specs.declared.AddressKind.TheVariants.{Public, Random}
 use Rattle.address.specs.declared.UnknownKind.{UnknownKind}
-use Rattle.address.specs.Identity.{kind_from, received_of, body, decode_of}
+use Rattle.address.specs.Identity.{kind_number, kind_from, received_of, body, decode_of}
 
 -- what the type octet's two tests come to
 abbrev by_kind : Bool → Bool → List ℕ → Option Address
@@ -50,3 +50,8 @@ module _ (l : List ℕ) where
         go true r e = absurd (let z : ◌≡◌ {A = ℕ} 0 1 = cc in omega arith)
         go false true e = absurd (let z : ◌≡◌ {A = ℕ} 0 1 = cc in omega arith)
         go false false e = refl
+
+-- a kind is the one that its type octet gives
+pub kind_from_number : (k : AddressKind) → kind_from (kind_number k) ≡ Ok k
+kind_from_number Public = refl
+kind_from_number Random = refl

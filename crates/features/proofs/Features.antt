@@ -72,6 +72,18 @@ oob_number_lem zero h = refl
 oob_number_lem (suc zero) h = refl
 oob_number_lem (suc (suc n)) h = absurd (omega arith)
 
+-- and a case is the one that its number gives
+pub io_from_number : (io : IoCapabilities) → io_from (io_number io) ≡ Ok io
+io_from_number DisplayOnly = refl
+io_from_number DisplayYesNo = refl
+io_from_number KeyboardOnly = refl
+io_from_number NoInputNoOutput = refl
+io_from_number KeyboardDisplay = refl
+
+pub oob_from_number : (oob : UseOutOfBand) → oob_from (oob_number oob) ≡ Ok oob
+oob_from_number NotPresent = refl
+oob_from_number Present = refl
+
 -- A number above the last one is reserved
 pub io_reserved : (n : ℕ) → 4 < n → Err (reserved n) ≡ io_from n
 io_reserved n h = rw (lt-leb n 4 h)

@@ -8,6 +8,9 @@ use lib.ListN.{length, take, drop, get_or, length-append, length-drop, take-appe
 use lib.Seq.{take_all, take-add, drop_at}
 use lib.Dec.{eqb, leb}
 use borrow.Author.Tests.{eq-eqb, ne_eqb, le-leb, eqb-true, leb-true}
+use Rattle.protocol.specs.declared.Event.{Event}
+use Rattle.protocol.specs.declared.Event.TheVariants as I
+use Rattle.protocol.specs.declared.OobData.{OobData}
 use Rattle.inputs.specs.declared.Came.{Came}
 use Rattle.inputs.specs.declared.Came.TheVariants.{LinkEncryptedResult, PassKeyConfirm, PassKeyCancel, PassKeyInput, OobDataReceived}
 use Rattle.protocol.specs.declared.Given.{Given}
@@ -18,6 +21,7 @@ use Rattle.fields.proofs.Flags.{flag_back, flag_small, flag_number_lem}
 use Rattle.inputs.specs.declared.Call.{Call}
 use Rattle.inputs.specs.declared.EventCall.{EventCall}
 use Rattle.inputs.specs.Input.{
+  event_in,
   given_number,
   given_of,
   call_rows,
@@ -332,3 +336,18 @@ put_read_event l b f =
     refl)))))
     ∙ join_cut event_sizes l 156 in
     rw (in_range l b q.0, rows l b q.0, t) (sym (take-add 156 53 l) ∙ take_all 209 l (omega arith))
+
+-- every event is that of a payload
+abbrev pub came_of : Event → Came
+came_of (I.LinkEncryptedResult ok) = LinkEncryptedResult ok
+came_of I.PassKeyConfirm = PassKeyConfirm
+came_of I.PassKeyCancel = PassKeyCancel
+came_of (I.PassKeyInput p) = PassKeyInput p
+came_of (I.OobDataReceived o) = OobDataReceived
+
+pub event_came : (e : Event) (o : OobData) → ((d : OobData) → e ≡ I.OobDataReceived d → d ≡ o) → event_in (came_of e) o ≡ e
+event_came (I.LinkEncryptedResult ok) o h = refl
+event_came I.PassKeyConfirm o h = refl
+event_came I.PassKeyCancel o h = refl
+event_came (I.PassKeyInput p) o h = refl
+event_came (I.OobDataReceived d) o h = ap I.OobDataReceived (sym (h d refl))

@@ -1,5 +1,5 @@
 // Commands and events as bytes: the payloads of docs/CALLS.md, kinds 2 and 3, read and written. Both begin with the outbox's length and the
-// supplied values. Reading says whether a payload fits its kind; writing refuses what no payload can carry.
+// supplied values. Reading gives none where a payload doesn't fit its kind; writing refuses what no payload can carry.
 #![tactic(auto)]
 
 ghost use Rattle.std.specs.Prelude.{◌≡◌, ◌∷◌, ◌++◌, ◌≤◌, length, take, drop};

@@ -39,7 +39,8 @@ pub struct State {
     pub peer: Address,
 }
 
-// The machine but for its setup, which no step changes.
+// The machine but for its setup, which no step changes. It is no part of `State`: plans and theorems speak of `m.phase` (docs/COST.md has what a
+// step saves by leaving the setup out).
 #[derive(Clone, Copy)]
 pub struct Progress {
     pub phase: Phase,

@@ -7,7 +7,10 @@ use Rattle.features.specs.declared.IoCapabilities.{IoCapabilities}
 use Rattle.features.specs.declared.IoCapabilities.TheVariants.{DisplayOnly, DisplayYesNo, KeyboardOnly, NoInputNoOutput, KeyboardDisplay}
 use Rattle.method.specs.declared.Kind.{Kind}
 use Rattle.method.specs.declared.PairingMethod.TheVariants.{JustWorks, OutOfBand}
-use Rattle.method.specs.Method.{table, set, uses_oob, method_of}
+use Rattle.method.specs.declared.SecurityLevel.{SecurityLevel}
+use Rattle.method.specs.declared.SecurityLevel.TheVariants.{NoEncryption, Encrypted, EncryptedAuthenticated}
+use Rattle.std.specs.Prelude.{Ok}
+use Rattle.method.specs.Method.{table, set, uses_oob, method_of, level_number, numbered_level}
 
 module _ (kind : Kind) (initiator responder : PairingFeatures) where
   pub by_oob : uses_oob kind (set initiator.oob) (set responder.oob) ≡ true → OutOfBand ≡ method_of kind initiator responder
@@ -35,3 +38,9 @@ no_input DisplayYesNo kind = refl
 no_input KeyboardOnly kind = refl
 no_input NoInputNoOutput kind = refl
 no_input KeyboardDisplay kind = refl
+
+-- a level is the one that its number gives
+pub numbered_level_number : (l : SecurityLevel) → numbered_level (level_number l) ≡ Ok l
+numbered_level_number NoEncryption = refl
+numbered_level_number Encrypted = refl
+numbered_level_number EncryptedAuthenticated = refl

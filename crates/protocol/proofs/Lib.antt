@@ -17,3 +17,4 @@ pub mod Acceptable
 pub mod Samples
 pub mod Marks
 pub mod Unique
+pub mod Numbers

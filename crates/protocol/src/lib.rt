@@ -193,7 +193,7 @@ pub struct Check {
     pub a2: Address,
 }
 
-// A question without its arguments: there is one answer for each.
+// A question without its arguments: there is one answer for each. Definitions and theorems speak of it (`Reply`, protocol/specs/Plan.antt).
 #[derive(Clone, Copy, Debug, PartialEq, Eq)]
 pub enum QuestionKind {
     DH,

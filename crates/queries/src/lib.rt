@@ -11,7 +11,8 @@ use method::SecurityLevel;
 use protocol::{Bond, Failure};
 use responder::Responder;
 
-#[derive(Clone, Copy)]
+// Three cases, where a Result in an Option would say the same less plainly.
+#[derive(Clone, Copy, Debug, PartialEq, Eq)]
 pub enum PairingResult {
     Running,
     Succeeded,

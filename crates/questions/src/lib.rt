@@ -223,7 +223,7 @@ impl Query {
         self.peer_check()
     }
 
-    // f5 and the peer's check, which is known to be wrong.
+    // f5, then the peer's check.
     fn peer_check(self) -> Option<Question>
         ensures { result ≡ next_of self.given (ask_keys self.state ∷ ask_peer_check self.state self.supplied.mackey ∷ []) }
     {

@@ -18,6 +18,7 @@ pub struct Responder {
     pub state: State,
 }
 
+// A step with the responder after it in place of its progress: `Met stepped_of` speaks of this record, `Follows` of the other.
 #[derive(Clone, Copy)]
 pub struct Stepped {
     pub responder: Responder,

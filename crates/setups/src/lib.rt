@@ -1,5 +1,5 @@
-// Setups as bytes: the payload of docs/CALLS.md, kind 1, read and written. Reading says whether a payload fits; writing refuses what no
-// payload can carry.
+// Setups as bytes: the payload of docs/CALLS.md, kind 1, read and written. Reading gives none where a payload doesn't fit; writing refuses what
+// no payload can carry.
 #![tactic(auto)]
 
 ghost use Rattle.std.specs.Prelude.{◌≡◌, [], ◌∷◌, ◌++◌, ◌≤◌, ◌<◌, length, get_or, take};
@@ -285,7 +285,7 @@ fn place_address(out: &mut [u8; 153], at: usize, address: Address)
     fields::place_array(out, at, &[kind, o[0], o[1], o[2], o[3], o[4], o[5]]);
 }
 
-// Range tests ask these two of numbers in range alone.
+// Asked of numbers in range alone: `setup_fits` comes first.
 #[tactic(auto, using(crate::proofs::Starts::kind_told))]
 fn address_kind_of(number: u8) -> AddressKind
     ensures { result ≡ kind_of number }
