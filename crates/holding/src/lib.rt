@@ -17,7 +17,7 @@ use protocol::Failure;
 pub fn confirm(state: State, held: Option<[u8; 16]>, code: u8, payload: &[u8]) -> Step
     ensures { (a : Supplied) → Quiet state a (on_early_confirm state held code payload.now) result }
 {
-    let early = octets::reversed(payload);
+    let early: [u8; 16] = octets::reversed(payload);
     holds(
         state,
         held,
@@ -32,7 +32,7 @@ pub fn confirm(state: State, held: Option<[u8; 16]>, code: u8, payload: &[u8]) -
 pub fn check(state: State, held: Option<[u8; 16]>, code: u8, payload: &[u8]) -> Step
     ensures { (a : Supplied) → Quiet state a (on_early_check state held code payload.now) result }
 {
-    let early = octets::reversed(payload);
+    let early: [u8; 16] = octets::reversed(payload);
     holds(
         state,
         held,
