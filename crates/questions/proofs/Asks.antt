@@ -41,26 +41,14 @@ heard_value b d f e w = awaited_value b d f e (told_value w)
 pub heard_size : {A : Type 0} (b d : Bool) (f : Failure) (x : A) {v : Result A Failure} {y : A} → v ≡ verdict_of b d f x → result_ok v ≡ Some y → d ≡ true
 heard_size b d f x e w = awaited_size b d f x e (told_value w)
 
--- One question, or what is asked after it
-module _ {S : Type 0} {g : Given} {a : Supplied} {r rest : Option Question} where
-  pub asks_or : {q : Question} {k : Reply (kind_of q) → Plan S} → Queried g a (k (reply a (kind_of q))) rest → r ≡ option_or (cond (known g (kind_of q)) None (Some q)) rest
-      → Queried g a (asks q k) r
-  unfolding next_of asked
-  asks_or {q} {k} i h = record { next = h ∙ go (known g (kind_of q)) i.next }
-    where
-      go : (b : Bool) → rest ≡ next_of g (asked a (k (reply a (kind_of q)))) → option_or (cond b None (Some q)) rest ≡ cond b (next_of g (asked a (k (reply a (kind_of q))))) (Some q)
-      go true e = e
-      go false e = refl
-
--- two questions in order
-pub asks_both : (g : Given) (q p : Question) {r : Option Question} → r ≡ option_or (cond (known g (kind_of q)) None (Some q)) (cond (known g (kind_of p)) None (Some p))
-    → r ≡ next_of g (q ∷ p ∷ [])
+-- two questions in order: the first, and the second once the first has its answer
+pub asks_first : (g : Given) (q : Question) (qs : List Question) {r : Option Question} → known g (kind_of q) ≡ false → r ≡ Some q → r ≡ next_of g (q ∷ qs)
 unfolding next_of
-asks_both g q p h = h ∙ go (known g (kind_of q))
-  where
-    go : (b : Bool) → option_or (cond b None (Some q)) (cond (known g (kind_of p)) None (Some p)) ≡ cond b (cond (known g (kind_of p)) None (Some p)) (Some q)
-    go true = refl
-    go false = refl
+asks_first g q qs i h = rw i h
+
+pub asks_second : (g : Given) (q p : Question) {r : Option Question} → known g (kind_of q) ≡ true → r ≡ cond (known g (kind_of p)) None (Some p) → r ≡ next_of g (q ∷ p ∷ [])
+unfolding next_of
+asks_second g q p i h = rw i h
 
 -- A check, wrong and right
 module _ (m : State) {g : Given} {a : Supplied} {r two : Option Question} (e : two ≡ next_of g (ask_keys m ∷ ask_peer_check m a.mackey ∷ [])) where
@@ -80,3 +68,11 @@ module _ (m : State) {g : Given} {a : Supplied} {r two : Option Question} (e : t
       go true true = refl
       go true false = refl
       go false d = refl
+
+  -- while one of the two is asked, what the check is doesn't matter
+  pub asked_check : (v : List ℕ) {q : Question} → two ≡ Some q → r ≡ two → Queried g a (checking m true v) r
+  asked_check v {q} t h = go (same v a.peercheck) refl
+    where
+      go : (b : Bool) → same v a.peercheck ≡ b → Queried g a (checking m true v) r
+      go true s = right_check v s (rw t (h ∙ t))
+      go false s = wrong_check true v s h

@@ -97,8 +97,11 @@ impl Query {
     {
         payloads::public_key(code, payload).ok()?;
         let x = payloads::peer_x(payload);
+        if self.given.dh {
+            return self.first_move(x);
+        }
         let y = payloads::peer_y(payload);
-        unless(self.given, Question::DH { x, y }).or(self.first_move(x))
+        Some(Question::DH { x, y })
     }
 
     // After a valid key: our confirm, where the method begins with one.
@@ -215,19 +218,25 @@ impl Query {
     fn check_value(self, value: [u8; 16]) -> Option<Question>
         ensures { Queried self.given self.supplied (checking self.state true value) result }
     {
-        if octets::equal(&value, &self.supplied.peercheck) {
-            return self
-                .peer_check()
-                .or(unless(self.given, self.ask_own_check()));
+        match self.peer_check() {
+            Some(question) => Some(question),
+            None => {
+                if octets::equal(&value, &self.supplied.peercheck) {
+                    return unless(self.given, self.ask_own_check());
+                }
+                None
+            }
         }
-        self.peer_check()
     }
 
     // f5, then the peer's check.
     fn peer_check(self) -> Option<Question>
         ensures { result ≡ next_of self.given (ask_keys self.state ∷ ask_peer_check self.state self.supplied.mackey ∷ []) }
     {
-        unless(self.given, self.ask_keys()).or(unless(self.given, self.ask_peer_check()))
+        if self.given.f5 {
+            return unless(self.given, self.ask_peer_check());
+        }
+        Some(self.ask_keys())
     }
 
     // WaitingNumericComparisonResult: a held check is handled on the user's yes.
