@@ -1,2 +1,3 @@
 -- The definitions of `walk`, file by file.
+pub mod Digits
 pub mod Frames

@@ -103,10 +103,11 @@ fn record<'a>(
     payload: &'a mut [u8],
 ) -> Result<Option<(Kind, &'a [u8])>, Fault> {
     let mut header = [0u8; 4];
-    if input.read(&mut header[..1]).unwrap_or(0) == 0 {
+    let got = input.read(&mut header).unwrap_or(0).min(4);
+    if got == 0 {
         return Ok(None);
     }
-    whole(input, &mut header[1..])?;
+    whole(input, &mut header[got..])?;
     let head = calls::read_header(&header);
     let size = head.length.min(payload.len());
     whole(input, &mut payload[..size])?;
