@@ -103,7 +103,7 @@ fn record<'a>(
     payload: &'a mut [u8],
 ) -> Result<Option<(Kind, &'a [u8])>, Fault> {
     let mut header = [0u8; 4];
-    let got = input.read(&mut header).unwrap_or(0).min(4);
+    let got = input.read(&mut header).unwrap_or(0);
     if got == 0 {
         return Ok(None);
     }
