@@ -5,7 +5,7 @@ ghost use Rattle.std.specs.Prelude.{◌≡◌, cond, Some, None};
 ghost use Rattle.protocol.specs.Plan.{kind_of};
 ghost use Rattle.protocol.specs.Next.{known};
 
-use protocol::{Given, Question};
+use protocol::{Given, Question, QuestionKind};
 
 // A question, unless it has its answer.
 pub fn unless(given: Given, question: Question) -> Option<Question>
@@ -15,6 +15,21 @@ pub fn unless(given: Given, question: Question) -> Option<Question>
         None
     } else {
         Some(question)
+    }
+}
+
+// A question without its arguments.
+pub fn kind(asked: Question) -> QuestionKind
+    ensures { result ≡ kind_of asked }
+{
+    match asked {
+        Question::DH { .. } => QuestionKind::DH,
+        Question::OwnConfirm(_) => QuestionKind::OwnConfirm,
+        Question::PeerConfirm(_) => QuestionKind::PeerConfirm,
+        Question::G2 { .. } => QuestionKind::G2,
+        Question::F5 { .. } => QuestionKind::F5,
+        Question::PeerCheck(_) => QuestionKind::PeerCheck,
+        Question::OwnCheck(_) => QuestionKind::OwnCheck,
     }
 }
 
