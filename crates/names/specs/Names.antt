@@ -1,13 +1,13 @@
 -- The words of docs/CALLS.md for what a line shows.
-use Rattle.std.specs.Prelude.{ℕ, List, [], ◌∷◌}
+use Rattle.std.specs.Prelude.{ℕ, ◌-◌, List, [], ◌∷◌, ◌++◌, replicate, Option, None, Some}
 use Prim.Native.Char.{code}
-use Prim.Native.String.{String, [] as none, ◌∷◌ as ◌then◌}
+use Prim.Native.String.{String, count, [] as none, ◌∷◌ as ◌then◌}
 use Rattle.protocol.specs.declared.ConnectionEvent.{ConnectionEvent}
 use Rattle.protocol.specs.declared.ConnectionEvent.TheVariants as E
 use Rattle.protocol.specs.declared.Failure.{Failure}
 use Rattle.protocol.specs.declared.Failure.TheVariants as F
-use Rattle.protocol.specs.declared.Question.{Question}
-use Rattle.protocol.specs.declared.Question.TheVariants as Q
+use Rattle.protocol.specs.declared.QuestionKind.{QuestionKind}
+use Rattle.protocol.specs.declared.QuestionKind.TheVariants as Q
 use Rattle.protocol.specs.declared.Refusal.{Refusal}
 use Rattle.protocol.specs.declared.Refusal.TheVariants as R
 use Rattle.machine.specs.declared.Phase.{Phase}
@@ -23,6 +23,11 @@ use Rattle.method.specs.declared.SecurityLevel.TheVariants as L
 unfoldable pub octets : String → List ℕ
 octets none = []
 octets (c then word) = code c ∷ octets word
+
+-- the word in 36 octets, with spaces behind it
+unfoldable pub padded : String → List ℕ
+unfolding octets
+padded word = octets word ++ replicate (36 - count word) 32
 
 -- behind `failed`, `Error` and `PairingFailed`
 abbrev pub failure_name : Failure → String
@@ -78,20 +83,23 @@ state_name P.WaitingIdentitityAddressInformation = "WaitingIdentitityAddressInfo
 state_name P.Success = "Success"
 state_name (P.Error failure) = "Error"
 
-abbrev pub event_name : ConnectionEvent → String
-event_name E.BondLost = "BondLost"
-event_name E.OobRequest = "OobRequest"
-event_name (E.PassKeyDisplay passkey) = "PassKeyDisplay"
-event_name E.PassKeyInput = "PassKeyInput"
-event_name (E.PassKeyConfirm shown) = "PassKeyConfirm"
-event_name (E.PairingComplete level reported) = "PairingComplete"
-event_name (E.PairingFailed failure) = "PairingFailed"
+-- nothing is written for no event
+abbrev pub event_name : Option ConnectionEvent → String
+event_name None = ""
+event_name (Some E.BondLost) = "BondLost"
+event_name (Some E.OobRequest) = "OobRequest"
+event_name (Some (E.PassKeyDisplay passkey)) = "PassKeyDisplay"
+event_name (Some E.PassKeyInput) = "PassKeyInput"
+event_name (Some (E.PassKeyConfirm shown)) = "PassKeyConfirm"
+event_name (Some (E.PairingComplete level reported)) = "PairingComplete"
+event_name (Some (E.PairingFailed failure)) = "PairingFailed"
 
-abbrev pub question_name : Question → String
-question_name (Q.DH x y) = "DH"
-question_name (Q.OwnConfirm c) = "f4own"
-question_name (Q.PeerConfirm c) = "f4peer"
-question_name (Q.G2 u v x y) = "g2"
-question_name (Q.F5 w n1 n2 a1 a2) = "f5"
-question_name (Q.PeerCheck c) = "f6peer"
-question_name (Q.OwnCheck c) = "f6own"
+abbrev pub question_name : Option QuestionKind → String
+question_name None = "-"
+question_name (Some Q.DH) = "DH"
+question_name (Some Q.OwnConfirm) = "f4own"
+question_name (Some Q.PeerConfirm) = "f4peer"
+question_name (Some Q.G2) = "g2"
+question_name (Some Q.F5) = "f5"
+question_name (Some Q.PeerCheck) = "f6peer"
+question_name (Some Q.OwnCheck) = "f6own"

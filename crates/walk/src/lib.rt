@@ -7,6 +7,7 @@ mod parts;
 mod records;
 mod standing;
 mod text;
+mod word;
 
 ghost use Rattle.std.specs.Prelude.{◌≡◌};
 

@@ -96,11 +96,6 @@ impl fmt::Display for Line {
             self.events,
             OrDash(self.action.map(Deed))
         )?;
-        write!(
-            f,
-            " {} question={}",
-            self.view,
-            OrDash(self.asked.map(Asked))
-        )
+        write!(f, " {} question={}", self.view, Asked(self.asked))
     }
 }

@@ -3,6 +3,7 @@ ghost use Rattle.std.specs.Prelude.{◌≡◌};
 ghost use Rattle.walk.specs.Frames.{frame_end};
 
 use crate::text::{Hex, OrDash};
+use crate::word::Word;
 use address::Address;
 use method::SecurityLevel;
 use protocol::{Action, Answer, Bond, Check, ConnectionEvent, Question};
@@ -25,9 +26,13 @@ impl fmt::Display for Said {
             Said::Answer(Answer::Failed(failure)) => write!(
                 f,
                 "failed{}",
-                names::failure(*failure)
+                Word(names::failure(*failure))
             ),
-            Said::Answer(Answer::Refused(refusal)) => f.write_str(names::refusal(*refusal)),
+            Said::Answer(Answer::Refused(refusal)) => write!(
+                f,
+                "{}",
+                Word(names::refusal(*refusal))
+            ),
             Said::Seen(same) => f.write_str(if *same { "same" } else { "differs" }),
         }
     }
@@ -88,15 +93,19 @@ struct Event(ConnectionEvent);
 
 impl fmt::Display for Event {
     fn fmt<W: fmt::Write>(&self, f: &mut fmt::Formatter<W>) -> fmt::Result {
-        f.write_str(names::event(self.0))?;
+        write!(f, "{}", Word(names::event(Some(self.0))))?;
         match self.0 {
             ConnectionEvent::PassKeyDisplay(passkey) => write!(f, ":{passkey}"),
             ConnectionEvent::PassKeyConfirm(shown) => write!(f, ":{shown}"),
             ConnectionEvent::PairingComplete(level, reported) => {
                 let bond = if reported { "bond" } else { "-" };
-                write!(f, ":{}:{bond}", names::level(level))
+                write!(f, ":{}:{bond}", Word(names::level(level)))
             }
-            ConnectionEvent::PairingFailed(failure) => f.write_str(names::failure(failure)),
+            ConnectionEvent::PairingFailed(failure) => write!(
+                f,
+                "{}",
+                Word(names::failure(failure))
+            ),
             _ => Ok(()),
         }
     }
@@ -120,7 +129,12 @@ struct Key(Bond);
 
 impl fmt::Display for Key {
     fn fmt<W: fmt::Write>(&self, f: &mut fmt::Formatter<W>) -> fmt::Result {
-        write!(f, "{}:{}", Hex(&self.0.ltk), names::level(self.0.level))
+        write!(
+            f,
+            "{}:{}",
+            Hex(&self.0.ltk),
+            Word(names::level(self.0.level))
+        )
     }
 }
 
@@ -149,14 +163,17 @@ impl fmt::Display for At {
     }
 }
 
-// A question with its arguments.
+// A question with its arguments, or that there is none.
 #[derive(Clone, Copy)]
-pub(crate) struct Asked(pub(crate) Question);
+pub(crate) struct Asked(pub(crate) Option<Question>);
 
 impl fmt::Display for Asked {
     fn fmt<W: fmt::Write>(&self, f: &mut fmt::Formatter<W>) -> fmt::Result {
-        f.write_str(names::question(self.0))?;
-        match &self.0 {
+        write!(f, "{}", Word(names::question(self.0.map(asking::kind))))?;
+        let Some(question) = &self.0 else {
+            return Ok(());
+        };
+        match question {
             Question::DH { x, y } => write!(f, ":{}:{}", Hex(x), Hex(y)),
             Question::OwnConfirm(of) | Question::PeerConfirm(of) => write!(
                 f,

@@ -1,6 +1,7 @@
 // The parts of a line that say how the machine stands after the call: state, method, round, held, level, bond and peer.
 use crate::parts::{At, Held};
 use crate::text::OrDash;
+use crate::word::Word;
 use address::Address;
 use machine::Phase;
 use method::{PairingMethod, SecurityLevel};
@@ -29,14 +30,6 @@ pub(crate) fn seen(responder: Responder) -> View {
 }
 
 impl View {
-    // What stands behind the name of an error: the failure's.
-    fn failure(self) -> &'static str {
-        match self.phase {
-            Phase::Error(failure) => names::failure(failure),
-            _ => "",
-        }
-    }
-
     fn round(self) -> Option<u8> {
         match self.phase {
             Phase::WaitingPassKeyEntryConfirm(round) => Some(round),
@@ -57,15 +50,18 @@ impl View {
 
 impl fmt::Display for View {
     fn fmt<W: fmt::Write>(&self, f: &mut fmt::Formatter<W>) -> fmt::Result {
-        write!(f, "state={}{}", names::state(self.phase), self.failure())?;
-        write!(f, " method={}", names::method(self.method))?;
+        write!(f, "state={}", Word(names::state(self.phase)))?;
+        if let Phase::Error(failure) = self.phase {
+            write!(f, "{}", Word(names::failure(failure)))?;
+        }
+        write!(f, " method={}", Word(names::method(self.method)))?;
         write!(
             f,
             " round={} held={}",
             OrDash(self.round()),
             OrDash(self.held())
         )?;
-        write!(f, " level={}", names::level(self.level))?;
+        write!(f, " level={}", Word(names::level(self.level)))?;
         write!(
             f,
             " bond={} peer={}",
