@@ -159,7 +159,12 @@ pub(crate) struct At(pub(crate) Address);
 
 impl fmt::Display for At {
     fn fmt<W: fmt::Write>(&self, f: &mut fmt::Formatter<W>) -> fmt::Result {
-        write!(f, "{:02x}{}", u8::from(self.0.kind), Hex(&self.0.octets))
+        write!(
+            f,
+            "{}{}",
+            Hex(&[u8::from(self.0.kind)]),
+            Hex(&self.0.octets)
+        )
     }
 }
 
@@ -177,11 +182,11 @@ impl fmt::Display for Asked {
             Question::DH { x, y } => write!(f, ":{}:{}", Hex(x), Hex(y)),
             Question::OwnConfirm(of) | Question::PeerConfirm(of) => write!(
                 f,
-                ":{}:{}:{}:{:02x}",
+                ":{}:{}:{}:{}",
                 Hex(&of.u),
                 Hex(&of.v),
                 Hex(&of.x),
-                of.z
+                Hex(&[of.z])
             ),
             Question::G2 { u, v, x, y } => write!(
                 f,
