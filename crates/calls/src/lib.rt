@@ -7,9 +7,9 @@ ghost use Rattle.octets.specs.Write.{Wrote};
 ghost use Rattle.calls.specs.Header.{record_number, numbered_kind, header_octets, read_header};
 ghost use Rattle.calls.specs.Answer.{answer_octets, read_answer};
 
-pub use inputs::{Call, EventCall, put_command, put_event, read_command, read_event};
+pub use inputs::{Call, Came, EventCall, put_command, put_event, read_command, read_event};
 use protocol::{Answer, Failure, Refusal};
-pub use setups::{SetupCall, StartKind, put_setup, read_setup};
+pub use setups::{SetupCall, StartKind, UnknownStart, put_setup, read_setup};
 
 #[derive(Clone, Copy, Debug, PartialEq, Eq)]
 pub enum Kind {
