@@ -22,6 +22,9 @@ use Rattle.inputs.specs.declared.Call.{Call}
 use Rattle.inputs.specs.declared.EventCall.{EventCall}
 use Rattle.inputs.specs.Input.{
   event_in,
+  came_of,
+  values_of,
+  event_call_of,
   given_number,
   given_of,
   call_rows,
@@ -337,17 +340,13 @@ put_read_event l b f =
     ∙ join_cut event_sizes l 156 in
     rw (in_range l b q.0, rows l b q.0, t) (sym (take-add 156 53 l) ∙ take_all 209 l (omega arith))
 
--- every event is that of a payload
-abbrev pub came_of : Event → Came
-came_of (I.LinkEncryptedResult ok) = LinkEncryptedResult ok
-came_of I.PassKeyConfirm = PassKeyConfirm
-came_of I.PassKeyCancel = PassKeyCancel
-came_of (I.PassKeyInput p) = PassKeyInput p
-came_of (I.OobDataReceived o) = OobDataReceived
-
+-- every event is that of a payload, whatever values stand beside it where they are not its own
 pub event_came : (e : Event) (o : OobData) → ((d : OobData) → e ≡ I.OobDataReceived d → d ≡ o) → event_in (came_of e) o ≡ e
 event_came (I.LinkEncryptedResult ok) o h = refl
 event_came I.PassKeyConfirm o h = refl
 event_came I.PassKeyCancel o h = refl
 event_came (I.PassKeyInput p) o h = refl
 event_came (I.OobDataReceived d) o h = ap I.OobDataReceived (sym (h d refl))
+
+pub event_called : (c : Call) (e : Event) → event_in (event_call_of c e).came (event_call_of c e).values ≡ e
+event_called c e = event_came e (values_of e) (λ d p. sym (ap values_of p))

@@ -10,6 +10,7 @@ use Rattle.inputs.specs.declared.Call.{Call}
 use Rattle.inputs.specs.declared.Came.{Came}
 use Rattle.inputs.specs.declared.Came.TheVariants.{LinkEncryptedResult, PassKeyConfirm, PassKeyCancel, PassKeyInput, OobDataReceived}
 use Rattle.inputs.specs.declared.EventCall.{EventCall}
+use Rattle.octets.specs.Octets.{zeros}
 use Rattle.fields.specs.Fields.{little, number_at, field, flag_number, flag_at, one, join, every, at_most}
 
 -- which answers are given: a bit each
@@ -131,6 +132,28 @@ event_in PassKeyConfirm o = I.PassKeyConfirm
 event_in PassKeyCancel o = I.PassKeyCancel
 event_in (PassKeyInput passkey) o = I.PassKeyInput passkey
 event_in OobDataReceived o = I.OobDataReceived o
+
+-- which event it is, and its out-of-band values: zeros where it has none
+abbrev pub came_of : Event → Came
+came_of (I.LinkEncryptedResult encrypted) = LinkEncryptedResult encrypted
+came_of I.PassKeyConfirm = PassKeyConfirm
+came_of I.PassKeyCancel = PassKeyCancel
+came_of (I.PassKeyInput passkey) = PassKeyInput passkey
+came_of (I.OobDataReceived o) = OobDataReceived
+
+abbrev pub no_values : OobData
+no_values = record { ownrandom = zeros 16; peerrandom = zeros 16; peerconfirm = zeros 16 }
+
+abbrev pub values_of : Event → OobData
+values_of (I.LinkEncryptedResult encrypted) = no_values
+values_of I.PassKeyConfirm = no_values
+values_of I.PassKeyCancel = no_values
+values_of (I.PassKeyInput passkey) = no_values
+values_of (I.OobDataReceived o) = o
+
+-- the call of an event
+abbrev pub event_call_of : Call → Event → EventCall
+event_call_of c e = record { call = c; came = came_of e; values = values_of e }
 
 -- the rows behind the first 156 bytes, with their offsets
 abbrev pub event_rows : EventCall → List (List ℕ)

@@ -21,6 +21,10 @@ ghost use Rattle.inputs.specs.Input.{
   number_fits,
   event_rows,
   event_in,
+  came_of,
+  no_values,
+  values_of,
+  event_call_of,
   event_octets,
   event_call,
   event_fits,
@@ -56,6 +60,17 @@ pub struct EventCall {
 }
 
 impl EventCall {
+    // The call of an event. Where it has no out-of-band values, zeros stand in the payload.
+    pub fn from_event(call: Call, event: Event) -> EventCall
+        ensures { result ≡ event_call_of call event }
+    {
+        EventCall {
+            call,
+            came: came_of(event),
+            values: values_of(event),
+        }
+    }
+
     // The event, which holds the values where it is theirs.
     pub fn event(self) -> Event
         ensures { result ≡ event_in self.came self.values }
@@ -67,6 +82,42 @@ impl EventCall {
             Came::PassKeyInput(passkey) => Event::PassKeyInput(passkey),
             Came::OobDataReceived => Event::OobDataReceived(self.values),
         }
+    }
+}
+
+fn came_of(event: Event) -> Came
+    ensures { result ≡ came_of event }
+{
+    match event {
+        Event::LinkEncryptedResult(encrypted) => Came::LinkEncryptedResult(encrypted),
+        Event::PassKeyConfirm => Came::PassKeyConfirm,
+        Event::PassKeyCancel => Came::PassKeyCancel,
+        Event::PassKeyInput(passkey) => Came::PassKeyInput(passkey),
+        Event::OobDataReceived(_values) => Came::OobDataReceived,
+    }
+}
+
+fn values_of(event: Event) -> OobData
+    ensures { result ≡ values_of event }
+{
+    match event {
+        Event::OobDataReceived(values) => values,
+        Event::LinkEncryptedResult(_)
+        | Event::PassKeyConfirm
+        | Event::PassKeyCancel
+        | Event::PassKeyInput(_) => no_values(),
+    }
+}
+
+// What stands in a payload where an event has no out-of-band values.
+#[tactic(auto, unfolding(octets::specs::Octets::zeros))]
+fn no_values() -> OobData
+    ensures { result ≡ no_values }
+{
+    OobData {
+        ownrandom: [0; 16],
+        peerrandom: [0; 16],
+        peerconfirm: [0; 16],
     }
 }
 

@@ -1,6 +1,6 @@
 -- Reading a setup that was written gives the setup again, and writing what was read gives the same payload. Assumes nothing.
 use mathlib.Core.Path.{◌≡◌, refl, sym, ap, ◌∙◌}
-use Rattle.std.specs.Prelude.{Option, Some, None, is_some, unwrap_or}
+use Rattle.std.specs.Prelude.{Option, Some, None}
 use mathlib.Core.List.{List, [], ◌∷◌, append-nil}
 use mathlib.Core.Bool.{true, cond}
 use Prim.Native.Nat.{ℕ, zero, suc, ◌+◌, ◌≤◌, ◌<◌}
@@ -26,7 +26,7 @@ use Rattle.setups.specs.declared.StartKind.TheVariants.{Plain, ByUser, NotByUser
 use Rattle.protocol.specs.declared.Bond.{Bond}
 use Rattle.protocol.specs.declared.Setup.{Setup}
 use Rattle.setups.specs.declared.SetupCall.{SetupCall}
-use Rattle.setups.specs.Setup.{address_octets, kind_of, address_at, start_number, start_of, level_of, configured_number, configured_passkey, configured_of, setup_rows, setup_octets, setup_in, setup_call, setup_fits, read_setup}
+use Rattle.setups.specs.Setup.{address_octets, kind_of, address_at, start_number, start_of, level_of, configured_number, configured_passkey, configured_of, setup_rows, setup_octets, setup_in, call_of, setup_call, setup_fits, read_setup}
 
 -- Numbers and cases
 
@@ -279,25 +279,6 @@ module _ (l : List ℕ) (b : Below l) (f : setup_fits l ≡ true) where
   put_read = rw (test_at 1 _ f) (ap join rows ∙ join_cut setup_sizes l 0 ∙ take_all 153 l (omega (arith, whole)))
 
 -- every setup is that of a payload, whatever bytes stand where it has no known bond
-abbrev pub call_of : StartKind → ℕ → Setup → Bond → SetupCall
-call_of start outbox s b =
-    record {
-      start = start;
-      outbox = outbox;
-      io = s.io;
-      oob = s.oob;
-      bonding = s.bonding;
-      passkey = s.passkey;
-      keyx = s.keyx;
-      keyy = s.keyy;
-      irk = s.irk;
-      own = s.own;
-      identity = s.identity;
-      peer = s.peer;
-      there = is_some s.known;
-      bond = unwrap_or s.known b;
-    }
-
 pub setup_called : (start : StartKind) (outbox : ℕ) (s : Setup) (b : Bond) → setup_in (call_of start outbox s b) ≡ s
 setup_called start outbox s b = go s.known refl
   where

@@ -1,5 +1,6 @@
 -- The payload of a setup: 153 bytes, rows and offsets as in docs/CALLS.md.
 use Rattle.std.specs.Prelude.{ℕ, ◌+◌, List, [], ◌∷◌, Bool, true, cond, Option, Some, None, is_some, unwrap_or, Result, Ok, Err, length, get_or, eqb, leb}
+use Rattle.octets.specs.Octets.{zeros}
 use Rattle.address.specs.declared.Address.{Address}
 use Rattle.address.specs.declared.AddressKind.{AddressKind}
 use Rattle.address.specs.declared.AddressKind.TheVariants.{Public, Random}
@@ -126,6 +127,30 @@ setup_in c =
       peer = c.peer;
       known = cond c.there (Some c.bond) None;
     }
+
+-- the call of a setup, with a bond that stands where it has no known one
+abbrev pub call_of : StartKind → ℕ → Setup → Bond → SetupCall
+call_of start outbox s b =
+    record {
+      start = start;
+      outbox = outbox;
+      io = s.io;
+      oob = s.oob;
+      bonding = s.bonding;
+      passkey = s.passkey;
+      keyx = s.keyx;
+      keyy = s.keyy;
+      irk = s.irk;
+      own = s.own;
+      identity = s.identity;
+      peer = s.peer;
+      there = is_some s.known;
+      bond = unwrap_or s.known b;
+    }
+
+-- what stands there: zeros, read as a level and an address
+abbrev pub no_bond : Bond
+no_bond = record { ltk = zeros 16; level = NoEncryption; address = record { kind = Public; octets = zeros 6 }; irk = zeros 16 }
 
 -- where no passkey is configured its number is 0
 abbrev pub passkey_fits : List ℕ → Bool

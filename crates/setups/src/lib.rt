@@ -20,6 +20,8 @@ ghost use Rattle.setups.specs.Setup.{
   setup_octets,
   bond_at,
   setup_in,
+  call_of,
+  no_bond,
   setup_call,
   passkey_fits,
   setup_fits,
@@ -91,6 +93,28 @@ pub struct SetupCall {
 }
 
 impl SetupCall {
+    // The call of a setup. Where it has no known bond, zeros stand in the payload.
+    pub fn from_setup(start: StartKind, outbox: usize, setup: Setup) -> SetupCall
+        ensures { result ≡ call_of start outbox setup no_bond }
+    {
+        SetupCall {
+            start,
+            outbox,
+            io: setup.io,
+            oob: setup.oob,
+            bonding: setup.bonding,
+            passkey: setup.passkey,
+            keyx: setup.keyx,
+            keyy: setup.keyy,
+            irk: setup.irk,
+            own: setup.own,
+            identity: setup.identity,
+            peer: setup.peer,
+            there: setup.known.is_some(),
+            bond: setup.known.unwrap_or(no_bond()),
+        }
+    }
+
     // The setup: what the side is.
     pub fn setup(self) -> Setup
         ensures { result ≡ setup_in self }
@@ -108,6 +132,22 @@ impl SetupCall {
             peer: self.peer,
             known: if self.there { Some(self.bond) } else { None },
         }
+    }
+}
+
+// What stands in a payload where there is no known bond.
+#[tactic(auto, unfolding(octets::specs::Octets::zeros))]
+fn no_bond() -> Bond
+    ensures { result ≡ no_bond }
+{
+    Bond {
+        ltk: [0; 16],
+        level: SecurityLevel::NoEncryption,
+        address: Address {
+            kind: AddressKind::Public,
+            octets: [0; 6],
+        },
+        irk: [0; 16],
     }
 }
 
