@@ -67,7 +67,8 @@ pub fn bytes2(n: usize) -> [u8; 2]
     ((n % 65536) as u16).to_le_bytes()
 }
 
-// N bytes, written at an offset.
+// N bytes, written at an offset. Put in line, or the compiler guards each copy by a test whether the two overlap.
+#[inline(always)]
 pub fn place_array<const N: usize>(out: &mut [u8], at: usize, value: &[u8; N])
     ensures { Placed N at value.now out.old out.new }
 {

@@ -272,15 +272,14 @@ fn call_octets(call: Call) -> [u8; 156]
     octets
 }
 
-// By `place` and not `place_array`, whose copies the compiler guards by a test whether the two overlap.
 fn place_call(out: &mut [u8; 156], call: Call)
     ensures { Placed 156 0 (join (call_rows call)) out.old out.new }
 {
     place_drawn(out, call);
-    fields::place(out, 24, &call.supplied.dhkey);
-    fields::place(out, 56, &call.supplied.ownconfirm);
-    fields::place(out, 72, &call.supplied.peerconfirm);
-    fields::place(out, 88, &fields::bytes4(call.supplied.g2));
+    fields::place_array(out, 24, &call.supplied.dhkey);
+    fields::place_array(out, 56, &call.supplied.ownconfirm);
+    fields::place_array(out, 72, &call.supplied.peerconfirm);
+    fields::place_array(out, 88, &fields::bytes4(call.supplied.g2));
     place_checks(out, call);
 }
 
@@ -288,32 +287,32 @@ fn place_call(out: &mut [u8; 156], call: Call)
 fn place_drawn(out: &mut [u8; 156], call: Call)
     ensures { Placed 24 0 (join (take 5 (call_rows call))) out.old out.new }
 {
-    fields::place(out, 0, &fields::bytes2(call.outbox));
-    fields::place(out, 2, &[given_number(call.given)]);
-    fields::place(out, 3, &call.supplied.nonce);
-    fields::place(out, 19, &fields::bytes4(call.supplied.passkey));
-    fields::place(out, 23, &[u8::from(call.supplied.dhvalid)]);
+    fields::place_array(out, 0, &fields::bytes2(call.outbox));
+    fields::place_array(out, 2, &[given_number(call.given)]);
+    fields::place_array(out, 3, &call.supplied.nonce);
+    fields::place_array(out, 19, &fields::bytes4(call.supplied.passkey));
+    fields::place_array(out, 23, &[u8::from(call.supplied.dhvalid)]);
 }
 
 // The answers of f5 and f6.
 fn place_checks(out: &mut [u8; 156], call: Call)
     ensures { Placed 64 92 (join (drop 9 (call_rows call))) out.old out.new }
 {
-    fields::place(out, 92, &call.supplied.mackey);
-    fields::place(out, 108, &call.supplied.ltk);
-    fields::place(out, 124, &call.supplied.peercheck);
-    fields::place(out, 140, &call.supplied.owncheck);
+    fields::place_array(out, 92, &call.supplied.mackey);
+    fields::place_array(out, 108, &call.supplied.ltk);
+    fields::place_array(out, 124, &call.supplied.peercheck);
+    fields::place_array(out, 140, &call.supplied.owncheck);
 }
 
 // All 209 bytes.
 fn place_event(out: &mut [u8; 209], call: EventCall)
     ensures { Placed 209 0 (join (call_rows call.call) ++ join (event_rows call)) out.old out.new }
 {
-    fields::place(out, 0, &call_octets(call.call));
-    fields::place(out, 156, &event_head(call.came));
-    fields::place(out, 161, &call.values.ownrandom);
-    fields::place(out, 177, &call.values.peerrandom);
-    fields::place(out, 193, &call.values.peerconfirm);
+    fields::place_array(out, 0, &call_octets(call.call));
+    fields::place_array(out, 156, &event_head(call.came));
+    fields::place_array(out, 161, &call.values.ownrandom);
+    fields::place_array(out, 177, &call.values.peerrandom);
+    fields::place_array(out, 193, &call.values.peerconfirm);
 }
 
 fn given_number(given: Given) -> u8

@@ -277,11 +277,11 @@ fn setup_head(call: SetupCall) -> [u8; 11]
     ]
 }
 
-// All 153 bytes. By `place` and not `place_array`, whose copies the compiler guards by a test whether the two overlap.
+// All 153 bytes.
 fn place_setup(out: &mut [u8; 153], call: SetupCall)
     ensures { Placed 153 0 (join (setup_rows call)) out.old out.new }
 {
-    fields::place(out, 0, &setup_head(call));
+    fields::place_array(out, 0, &setup_head(call));
     place_box(out, call);
 }
 
@@ -289,9 +289,9 @@ fn place_setup(out: &mut [u8; 153], call: SetupCall)
 fn place_box(out: &mut [u8; 153], call: SetupCall)
     ensures { Placed 142 11 (join (box_rows call)) out.old out.new }
 {
-    fields::place(out, 11, &call.keyx);
-    fields::place(out, 43, &call.keyy);
-    fields::place(out, 75, &call.irk);
+    fields::place_array(out, 11, &call.keyx);
+    fields::place_array(out, 43, &call.keyy);
+    fields::place_array(out, 75, &call.irk);
     place_addresses(out, call.own, call.identity, call.peer);
     place_bond(out, call.there, call.bond);
 }
@@ -309,11 +309,11 @@ fn place_addresses(out: &mut [u8; 153], own: Address, identity: Address, peer: A
 fn place_bond(out: &mut [u8; 153], there: bool, bond: Bond)
     ensures { Placed 41 112 (join (bond_rows there bond)) out.old out.new }
 {
-    fields::place(out, 112, &[u8::from(there)]);
-    fields::place(out, 113, &bond.ltk);
-    fields::place(out, 129, &[u8::from(bond.level)]);
+    fields::place_array(out, 112, &[u8::from(there)]);
+    fields::place_array(out, 113, &bond.ltk);
+    fields::place_array(out, 129, &[u8::from(bond.level)]);
     place_address(out, 130, bond.address);
-    fields::place(out, 137, &bond.irk);
+    fields::place_array(out, 137, &bond.irk);
 }
 
 // An address: type, then six bytes.
@@ -322,7 +322,7 @@ fn place_address(out: &mut [u8; 153], at: usize, address: Address)
 {
     let o = address.octets;
     let kind = u8::from(address.kind);
-    fields::place(out, at, &[kind, o[0], o[1], o[2], o[3], o[4], o[5]]);
+    fields::place_array(out, at, &[kind, o[0], o[1], o[2], o[3], o[4], o[5]]);
 }
 
 // Asked of numbers in range alone: `setup_fits` comes first.
