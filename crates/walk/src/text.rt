@@ -4,7 +4,7 @@ ghost use Rattle.walk.specs.Digits.{hex_digit_ascii, last_digits};
 
 use std::fmt;
 
-// Two hex digits for each octet. `{:02x}` takes more than twice as long, and most of a line is hex.
+// Two hex digits for each octet. `{:02x}` takes more than twice as long, and most of a line that shows a question is hex.
 #[derive(Clone, Copy)]
 pub(crate) struct Hex<'a>(pub(crate) &'a [u8]);
 
