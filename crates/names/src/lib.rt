@@ -1,16 +1,32 @@
 // The words of docs/CALLS.md for the enums of a line, each in 36 octets with spaces behind it. A word goes by value, so that no second answer
 // meets a contract (`Unique`, proofs/Unique.antt): a lent text has a place beside its octets, which no contract fixes. The words stand in
-// words.rt: a choice among constants is proved in a third of the time of one among words in the code.
+// words.rt: a choice among constants is proved in a third of the time of one among words in the code. `event` and `question` lend the same words
+// as texts, without spaces. No crate here calls them: they stand for callers outside. A line is made of the words by value, `event_word` and
+// `question_word`.
 #![tactic(auto)]
 
+#[cfg(test)]
+mod tests;
 mod words;
 
 ghost use Rattle.std.specs.Prelude.{◌≡◌};
-ghost use Rattle.names.specs.Names.{padded, failure_name, refusal_name, level_name, entry_name, method_name, state_name, event_name, question_name};
+ghost use Rattle.protocol.specs.Plan.{kind_of};
+ghost use Rattle.names.specs.Names.{
+  octets,
+  padded,
+  failure_name,
+  refusal_name,
+  level_name,
+  entry_name,
+  method_name,
+  state_name,
+  event_name,
+  question_name,
+};
 
 use machine::Phase;
 use method::{PairingMethod, PassKeyEntryAction, SecurityLevel};
-use protocol::{ConnectionEvent, Failure, QuestionKind, Refusal};
+use protocol::{ConnectionEvent, Failure, Question, QuestionKind, Refusal};
 
 // A failure's number and name.
 pub fn failure(failure: Failure) -> [u8; 36]
@@ -100,7 +116,7 @@ pub fn state(phase: Phase) -> [u8; 36]
 }
 
 // Nothing for no event.
-pub fn event(told: Option<ConnectionEvent>) -> [u8; 36]
+pub fn event_word(told: Option<ConnectionEvent>) -> [u8; 36]
     ensures { result ≡ padded (event_name told) }
 {
     match told {
@@ -116,7 +132,7 @@ pub fn event(told: Option<ConnectionEvent>) -> [u8; 36]
 }
 
 // A dash for no question.
-pub fn question(kind: Option<QuestionKind>) -> [u8; 36]
+pub fn question_word(kind: Option<QuestionKind>) -> [u8; 36]
     ensures { result ≡ padded (question_name kind) }
 {
     match kind {
@@ -128,5 +144,35 @@ pub fn question(kind: Option<QuestionKind>) -> [u8; 36]
         Some(QuestionKind::F5) => words::F5,
         Some(QuestionKind::PeerCheck) => words::F6_PEER,
         Some(QuestionKind::OwnCheck) => words::F6_OWN,
+    }
+}
+
+// The word of an event as a text, without spaces.
+pub fn event(told: ConnectionEvent) -> &'static str
+    ensures { result.now ≡ octets (event_name (Some told)) }
+{
+    match told {
+        ConnectionEvent::BondLost => "BondLost",
+        ConnectionEvent::OobRequest => "OobRequest",
+        ConnectionEvent::PassKeyDisplay(_passkey) => "PassKeyDisplay",
+        ConnectionEvent::PassKeyInput => "PassKeyInput",
+        ConnectionEvent::PassKeyConfirm(_shown) => "PassKeyConfirm",
+        ConnectionEvent::PairingComplete(_level, _reported) => "PairingComplete",
+        ConnectionEvent::PairingFailed(_failure) => "PairingFailed",
+    }
+}
+
+// The word of a question's kind as a text, without spaces.
+pub fn question(asked: Question) -> &'static str
+    ensures { result.now ≡ octets (question_name (Some (kind_of asked))) }
+{
+    match asked {
+        Question::DH { .. } => "DH",
+        Question::OwnConfirm(_) => "f4own",
+        Question::PeerConfirm(_) => "f4peer",
+        Question::G2 { .. } => "g2",
+        Question::F5 { .. } => "f5",
+        Question::PeerCheck(_) => "f6peer",
+        Question::OwnCheck(_) => "f6own",
     }
 }

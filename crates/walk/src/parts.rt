@@ -93,7 +93,7 @@ struct Event(ConnectionEvent);
 
 impl fmt::Display for Event {
     fn fmt<W: fmt::Write>(&self, f: &mut fmt::Formatter<W>) -> fmt::Result {
-        write!(f, "{}", Word(names::event(Some(self.0))))?;
+        write!(f, "{}", Word(names::event_word(Some(self.0))))?;
         match self.0 {
             ConnectionEvent::PassKeyDisplay(passkey) => write!(f, ":{passkey}"),
             ConnectionEvent::PassKeyConfirm(shown) => write!(f, ":{shown}"),
@@ -174,7 +174,11 @@ pub(crate) struct Asked(pub(crate) Option<Question>);
 
 impl fmt::Display for Asked {
     fn fmt<W: fmt::Write>(&self, f: &mut fmt::Formatter<W>) -> fmt::Result {
-        write!(f, "{}", Word(names::question(self.0.map(asking::kind))))?;
+        write!(
+            f,
+            "{}",
+            Word(names::question_word(self.0.map(asking::kind)))
+        )?;
         let Some(question) = &self.0 else {
             return Ok(());
         };
